@@ -49,16 +49,19 @@ length-digest h (suc n) = omega (arith, length-digest h n, length-append (digest
 AreBytes-digest : (h : List ℕ) (n : ℕ) → AreBytes (digest_bytes h n)
 unfolding digest_bytes
 AreBytes-digest h zero = AreBytes-nil
-AreBytes-digest h (suc n) = AreBytes-append (digest_bytes h n) (to_be_bytes w32 (slice_index h n)) (AreBytes-digest h n) (AreBytes-high_first 4 (slice_index h n))
+AreBytes-digest h (suc n) =
+    AreBytes-append (digest_bytes h n) (to_be_bytes w32 (slice_index h n)) (AreBytes-digest h n) (AreBytes-high_first 4 (slice_index h n))
 
 pub length-check_of : (bytes : List ℕ) → length (check_of bytes) ≡ 16
 unfolding check_of sha256
-length-check_of bytes = let all = length-digest (final_hash initial_hash_256 bytes) 8 in length-take-le 16 (digest_bytes (final_hash initial_hash_256 bytes) 8) (omega arith)
+length-check_of bytes = let all = length-digest (final_hash initial_hash_256 bytes) 8 in
+    length-take-le 16 (digest_bytes (final_hash initial_hash_256 bytes) 8) (omega arith)
 
 -- a checksum's bytes are bytes
 pub AreBytes-check_of : (bytes : List ℕ) → AreBytes (check_of bytes)
 unfolding check_of sha256
-AreBytes-check_of bytes = AreBytes-take 16 (digest_bytes (final_hash initial_hash_256 bytes) 8) (AreBytes-digest (final_hash initial_hash_256 bytes) 8)
+AreBytes-check_of bytes =
+    AreBytes-take 16 (digest_bytes (final_hash initial_hash_256 bytes) 8) (AreBytes-digest (final_hash initial_hash_256 bytes) 8)
 
 pub length-spelled : (n x : ℕ) → length (spelled n x) ≡ n
 unfolding spelled
@@ -90,13 +93,9 @@ below : (x m : ℕ) → x < 256 → (x + 256 * m) % 256 ≡ x
 below x m h = omega arith
 
 byte_at-up : (i x m : ℕ) → x < 256 → byte_at (suc i) (x + 256 * m) ≡ byte_at i m
-byte_at-up i x m h =
-    let p : 256 ^ suc i ≡ 256 * 256 ^ i = pow-succ' 256 i in
-    byte_at-pow (suc i) (x + 256 * m)
-    ∙ ap (λ (y : ℕ). (x + 256 * m) / y % 256) p
-    ∙ ap (λ (y : ℕ). y % 256) (sym (div-div-eq-div-mul (x + 256 * m) 256 (256 ^ i)))
-    ∙ ap (λ (y : ℕ). y / 256 ^ i % 256) (above x m h)
-    ∙ sym (byte_at-pow i m)
+byte_at-up i x m h = let p : 256 ^ suc i ≡ 256 * 256 ^ i = pow-succ' 256 i in byte_at-pow (suc i) (x + 256 * m)
+    ∙ ap (λ (y : ℕ). (x + 256 * m) / y % 256) p ∙ ap (λ (y : ℕ). y % 256) (sym (div-div-eq-div-mul (x + 256 * m) 256 (256 ^ i)))
+    ∙ ap (λ (y : ℕ). y / 256 ^ i % 256) (above x m h) ∙ sym (byte_at-pow i m)
 
 bytes-up : (n i x m : ℕ) → x < 256 → bytes_low_first (suc i) n (x + 256 * m) ≡ bytes_low_first i n m
 bytes-up zero i x m h = refl
@@ -105,22 +104,18 @@ bytes-up (suc n) i x m h = let a = byte_at-up i x m h in let b = bytes-up n (suc
 -- the n bytes of the number that n bytes read as are those bytes
 back : (xs : List ℕ) → AreBytes xs → bytes_low_first 0 (length xs) (little_from 0 (length xs) xs) ≡ xs
 back [] are = refl
-back (x ∷ xs) are =
-    let moved : little_from 1 (length xs) (x ∷ xs) ≡ little_from 0 (length xs) xs = little_from-cons 0 (length xs) x xs in
-    let small : x < 256 = are 0 in
-    let rest = back xs (λ i. are (suc i)) in
-    let first = below x (little_from 0 (length xs) xs) small in
-    let others = bytes-up (length xs) 0 x (little_from 0 (length xs) xs) small in
-    rw (moved, first, others, rest) refl
+back (x ∷ xs) are = let moved : little_from 1 (length xs) (x ∷ xs) ≡ little_from 0 (length xs) xs = little_from-cons 0 (length xs) x xs in
+    let small : x < 256 = are 0 in let rest = back xs (λ i. are (suc i)) in let first = below x (little_from 0 (length xs) xs) small in
+    let others = bytes-up (length xs) 0 x (little_from 0 (length xs) xs) small in rw (moved, first, others, rest) refl
 
 back_of : (n : ℕ) (front : List ℕ) → length front ≡ n → AreBytes front → bytes_low_first 0 n (little_from 0 n front) ≡ front
 back_of n front size are = subst (λ (m : ℕ). bytes_low_first 0 m (little_from 0 m front) ≡ front) size (back front are)
 
 -- the bytes of the number that a field reads as are the field's bytes
-pub spelled-field_at : (n at : ℕ) (bytes : List ℕ) → AreBytes bytes → at + n ≤ length bytes → spelled n (field_at n at bytes) ≡ take n (drop at bytes)
+pub spelled-field_at : (n at : ℕ) (bytes : List ℕ)
+    → AreBytes bytes → at + n ≤ length bytes → spelled n (field_at n at bytes) ≡ take n (drop at bytes)
 unfolding spelled field_at
-spelled-field_at n at bytes are fits =
-    let rest : List ℕ = drop at bytes in
+spelled-field_at n at bytes are fits = let rest : List ℕ = drop at bytes in
     let size : length (take n rest) ≡ n = length-take-le n rest (omega (arith, length-drop at bytes)) in
     let read : little_from 0 n (take n rest) ≡ little_from 0 n rest = little_from-take 0 n n rest (omega arith) in
     ap (λ (x : ℕ). bytes_low_first 0 n x) (sym read) ∙ back_of n (take n rest) size (AreBytes-take n rest (AreBytes-drop at bytes are))

@@ -20,18 +20,16 @@ adds_on [] fs log = refl
 adds_on (e ∷ es) fs log = adds_on es fs (add e log)
 
 -- the log after an event is the only new moment
-split_until : (e : Event) (mid log : Log) (new : List Event) → e ∷ mid.events ≡ new ++ log.events → mid.start ≡ log.start → (add e mid ≡ log) ⊎ Extends mid log
+split_until : (e : Event) (mid log : Log) (new : List Event)
+    → e ∷ mid.events ≡ new ++ log.events → mid.start ≡ log.start → (add e mid ≡ log) ⊎ Extends mid log
 split_until e mid log [] events start = inl (same_log (add e mid) log events start)
-split_until e mid log (x ∷ new) events start =
-    let rest : mid.events ≡ new ++ log.events = cc in
-    inr (new, rest, start)
+split_until e mid log (x ∷ new) events start = let rest : mid.events ≡ new ++ log.events = cc in inr (new, rest, start)
 
 pub more : (e : Event) (entry mid : Log) (P : Log → Type 0) → EachMoment entry mid P → P (add e mid) → EachMoment entry (add e mid) P
-more e entry mid P before here log moment =
-    elim (split_until e mid log moment.until.0 moment.until.1 moment.until.2) [
-      | inl is ↦ subst P is here
-      | inr until ↦ before log (record { since = moment.since; until = until })
-    ]
+more e entry mid P before here log moment = elim (split_until e mid log moment.until.0 moment.until.1 moment.until.2) [
+  | inl is ↦ subst P is here
+  | inr until ↦ before log (record { since = moment.since; until = until })
+]
 
 none_longer : (a b es : List Event) → es ≡ a ++ (b ++ es) → a ≡ []
 none_longer [] b es is = refl
@@ -39,8 +37,8 @@ none_longer (x ∷ a) b es is = absurd (omega (arith, ap length is, length-appen
 
 -- before the first call
 pub started : (entry : Log) (P : Log → Type 0) → P entry → EachMoment entry entry P
-started entry P here log moment =
-    let none : moment.until.0 ≡ [] = none_longer moment.until.0 moment.since.0 entry.events (moment.until.1 ∙ ap (λ (l : List Event). moment.until.0 ++ l) moment.since.1) in
+started entry P here log moment = let none : moment.until.0 ≡ [] =
+    none_longer moment.until.0 moment.since.0 entry.events (moment.until.1 ∙ ap (λ (l : List Event). moment.until.0 ++ l) moment.since.1) in
     let same : entry.events ≡ log.events = moment.until.1 ∙ ap (λ (l : List Event). l ++ log.events) none in
     subst P (same_log entry log same moment.until.2) here
 
@@ -56,18 +54,18 @@ last_of (x ∷ xs) = elim (last_of xs) [
 ]
 
 same_end : (s a b : List Event) (x y : Event) (es : List Event) → s ≡ a ++ x ∷ es → s ≡ b ++ y ∷ es → x ≡ y
-same_end s a b x y es one two =
-    let first : drop (length s - suc (length es)) s ≡ x ∷ es = end_rest s (x ∷ es) a one in
-    let second : drop (length s - suc (length es)) s ≡ y ∷ es = end_rest s (y ∷ es) b two in
-    cc
+same_end s a b x y es one two = let first : drop (length s - suc (length es)) s ≡ x ∷ es = end_rest s (x ∷ es) a one in
+    let second : drop (length s - suc (length es)) s ≡ y ∷ es = end_rest s (y ∷ es) b two in cc
 
 -- a fact from an event on, and before it
-pub from_before : (e : Event) (entry exit : Log) (P : Log → Type 0) → P entry → Extends exit (add e entry) → EachMoment (add e entry) exit P → EachMoment entry exit P
+pub from_before : (e : Event) (entry exit : Log) (P : Log → Type 0)
+    → P entry → Extends exit (add e entry) → EachMoment (add e entry) exit P → EachMoment entry exit P
 from_before e entry exit P here grown later log moment = elim (last_of moment.since.0) [
   | inl none ↦ subst P (same_log entry log (sym (moment.since.1 ∙ ap (λ (l : List Event). l ++ entry.events) none)) (sym moment.since.2)) here
-  | inr some ↦
-      let events : log.events ≡ some.0 ++ some.1 ∷ entry.events = moment.since.1 ∙ ap (λ (l : List Event). l ++ entry.events) some.2 ∙ append_assoc some.0 (some.1 ∷ []) entry.events in
-      let ended : exit.events ≡ (moment.until.0 ++ some.0) ++ some.1 ∷ entry.events = moment.until.1 ∙ ap (λ (l : List Event). moment.until.0 ++ l) events ∙ sym (append_assoc moment.until.0 some.0 (some.1 ∷ entry.events)) in
+  | inr some ↦ let events : log.events ≡ some.0 ++ some.1 ∷ entry.events =
+      moment.since.1 ∙ ap (λ (l : List Event). l ++ entry.events) some.2 ∙ append_assoc some.0 (some.1 ∷ []) entry.events in
+      let ended : exit.events ≡ (moment.until.0 ++ some.0) ++ some.1 ∷ entry.events = moment.until.1
+      ∙ ap (λ (l : List Event). moment.until.0 ++ l) events ∙ sym (append_assoc moment.until.0 some.0 (some.1 ∷ entry.events)) in
       let same : some.1 ≡ e = same_end exit.events (moment.until.0 ++ some.0) grown.0 some.1 e entry.events ended grown.1 in
       later log (record { since = (some.0, events ∙ ap (λ (x : Event). some.0 ++ x ∷ entry.events) same, moment.since.2); until = moment.until })
 ]
@@ -94,4 +92,5 @@ stands P log here = record { grew = extends_self log; moments = started log P he
 
 -- an event, and what happened after it
 pub goes_on : (P : Log → Type 0) (e : Event) (log exit : Log) → P log → Passed (add e log) exit P → Passed log exit P
-goes_on P e log exit here later = record { grew = grown_from e log exit later.grew; moments = from_before e log exit P here later.grew later.moments }
+goes_on P e log exit here later =
+    record { grew = grown_from e log exit later.grew; moments = from_before e log exit P here later.grew later.moments }

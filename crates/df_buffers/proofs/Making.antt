@@ -37,23 +37,30 @@ place_same WalPrepares h body = named_same h.kind h body
 place_same ClientReplies h body = named_same h.kind h body
 place_same Grid h body = named_same h.kind h body
 
-slot_same : (layout : Layout) (kind : Kind) (h : Header) (body : List ℕ) → has_op_of_slot layout kind (sealed (for_body h body)) ≡ has_op_of_slot layout kind h
+slot_same : (layout : Layout) (kind : Kind) (h : Header) (body : List ℕ)
+    → has_op_of_slot layout kind (sealed (for_body h body)) ≡ has_op_of_slot layout kind h
 slot_same layout Reserved h body = refl
 slot_same layout Prepare h body = refl
 slot_same layout Reply h body = refl
 slot_same layout Block h body = refl
 slot_same layout Trailer h body = refl
 
-own_same : (layout : Layout) (zone : Zone) (h : Header) (body : List ℕ) → own_place layout zone (sealed (for_body h body)) ≡ own_place layout zone h
+own_same : (layout : Layout) (zone : Zone) (h : Header) (body : List ℕ)
+    → own_place layout zone (sealed (for_body h body)) ≡ own_place layout zone h
 unfolding own_place
 own_same layout zone h body = λ i. cond (slot_same layout h.kind h body i) (inside layout (place_same zone h body i)) None
 
 -- what a kind's header names lies in its zone
-zone_named : (kind : Kind) (zone : Zone) (h : Header) (place : Place) → StandsIn kind zone → h.kind ≡ kind → named_place zone h ≡ Some place → place.zone ≡ zone
-zone_named Prepare WalPrepares h place stands same is = sym (ap (λ (p : Place). p.zone) (same_Some _ _ (ap (λ (k : Kind). named_elsewhere k h) (sym same) ∙ is)))
-zone_named Reply ClientReplies h place stands same is = sym (ap (λ (p : Place). p.zone) (same_Some _ _ (ap (λ (k : Kind). named_elsewhere k h) (sym same) ∙ is)))
-zone_named Block Grid h place stands same is = sym (ap (λ (p : Place). p.zone) (same_Some _ _ (ap (λ (k : Kind). named_elsewhere k h) (sym same) ∙ is)))
-zone_named Trailer Grid h place stands same is = sym (ap (λ (p : Place). p.zone) (same_Some _ _ (ap (λ (k : Kind). named_elsewhere k h) (sym same) ∙ is)))
+zone_named : (kind : Kind) (zone : Zone) (h : Header) (place : Place)
+    → StandsIn kind zone → h.kind ≡ kind → named_place zone h ≡ Some place → place.zone ≡ zone
+zone_named Prepare WalPrepares h place stands same is =
+    sym (ap (λ (p : Place). p.zone) (same_Some _ _ (ap (λ (k : Kind). named_elsewhere k h) (sym same) ∙ is)))
+zone_named Reply ClientReplies h place stands same is =
+    sym (ap (λ (p : Place). p.zone) (same_Some _ _ (ap (λ (k : Kind). named_elsewhere k h) (sym same) ∙ is)))
+zone_named Block Grid h place stands same is =
+    sym (ap (λ (p : Place). p.zone) (same_Some _ _ (ap (λ (k : Kind). named_elsewhere k h) (sym same) ∙ is)))
+zone_named Trailer Grid h place stands same is =
+    sym (ap (λ (p : Place). p.zone) (same_Some _ _ (ap (λ (k : Kind). named_elsewhere k h) (sym same) ∙ is)))
 zone_named kind zone h place stands same is = absurd stands
 
 -- the bytes begin with the unit whose sectors were written over them
@@ -69,30 +76,35 @@ pub record IsMade (zone : Zone) (kind : Kind) (layout : Layout) (bytes : List �
   pub unit : unit_with u.header bytes ≡ u
   pub sound : IsSound zone kind (record { layout = layout; unit = unit_with u.header bytes; bytes = bytes })
 
-pub made_in : (zone : Zone) (kind : Kind) (layout : Layout) (h result : Header) (body bytes : List ℕ) → FillsRoom layout zone bytes → StandsIn kind zone → h.kind ≡ kind → IsSome (own_place layout zone h)
+pub made_in : (zone : Zone) (kind : Kind) (layout : Layout) (h result : Header) (body bytes : List ℕ)
+    → FillsRoom layout zone bytes → StandsIn kind zone → h.kind ≡ kind → IsSome (own_place layout zone h)
     → 256 + length body ≤ greatest_size layout zone → result ≡ sealed (for_body h body) → MadeIsUnit (record { header = result; body = body })
-    → take (sectors_end (256 + length body)) bytes ≡ sectors_of (record { header = result; body = body }) → IsMade zone kind layout bytes (record { header = result; body = body })
-made_in zone kind layout h result body bytes fills stands same some fits is unit sectors =
-    let own = some_of _ some in
-    let its : own_place layout zone result ≡ Some own.0 = ap (λ (x : Header). own_place layout zone x) is ∙ own_same layout zone h body ∙ own.1 in
+    → take (sectors_end (256 + length body)) bytes ≡ sectors_of (record { header = result; body = body })
+    → IsMade zone kind layout bytes (record { header = result; body = body })
+made_in zone kind layout h result body bytes fills stands same some fits is unit sectors = let own = some_of _ some in
+    let its : own_place layout zone result ≡ Some own.0 =
+    ap (λ (x : Header). own_place layout zone x) is ∙ own_same layout zone h body ∙ own.1 in
     let here : own.0.zone ≡ zone = zone_named kind zone h own.0 stands same (own_named layout zone h own.0 own.1) in
     let other : own.0.zone ≢ WalHeaders = λ ring. is_no_ring kind zone stands (sym here ∙ ring) in
-    let small : result.size ≤ greatest_size layout own.0.zone = subst (λ (z : Zone). result.size ≤ greatest_size layout z) (sym here) (subst (λ (n : ℕ). n ≤ greatest_size layout zone) (ap (λ (x : Header). x.size) (sym is)) fits) in
+    let small : result.size ≤ greatest_size layout own.0.zone = subst (λ (z : Zone). result.size
+    ≤ greatest_size layout z) (sym here) (subst (λ (n : ℕ). n ≤ greatest_size layout zone) (ap (λ (x : Header). x.size) (sym is)) fits) in
     let good = unit layout own.0 (ap (λ (z : Zone). own_place layout z result) here ∙ its) small (λ ring. absurd (other ring)) in
-    let front = begun (record { header = result; body = body }) bytes _ sectors in
-    let valid = begun_is_shown layout result.cluster own.0 bytes (record { header = result; body = body }) (record { is = good; rest = front.0; spelled = front.1 }) in
-    let whole = found_whole layout result.cluster own.0 bytes (record { header = result; body = body }) result other refl valid in
-    record {
+    let front = begun (record { header = result; body = body }) bytes _ sectors in let valid = begun_is_shown
+    layout result.cluster own.0 bytes (record { header = result; body = body }) (record { is = good; rest = front.0; spelled = front.1 }) in
+    let whole = found_whole layout result.cluster own.0 bytes (record { header = result; body = body }) result other refl valid in record {
       unit = sym whole;
       sound = record { fills = fills; of_kind = ap (λ (x : Header). x.kind) is ∙ same; place = own.0; in_zone = here; is = subst (λ (x : Message). IsUnit layout result.cluster own.0 x) whole good; valid = valid ∙ ap Some whole };
     }
 
 -- no part of a unit that fits lies beyond its room
-pub made_fits : (zone : Zone) (layout : Layout) (n : ℕ) → zone ≢ WalHeaders → n ≤ greatest_size layout zone → (n ≤ 1048576) × (sectors_end n ≤ 4096 * place_sectors layout zone)
+pub made_fits : (zone : Zone) (layout : Layout) (n : ℕ)
+    → zone ≢ WalHeaders → n ≤ greatest_size layout zone → (n ≤ 1048576) × (sectors_end n ≤ 4096 * place_sectors layout zone)
 made_fits Superblock layout n other fits = (omega (arith, fits), omega (arith, fits, fits_slot layout Superblock other))
 made_fits WalHeaders layout n other fits = absurd (other refl)
-made_fits WalPrepares layout n other fits = (omega (arith, fits, layout.message_size_within.1), omega (arith, fits, fits_slot layout WalPrepares other))
-made_fits ClientReplies layout n other fits = (omega (arith, fits, layout.message_size_within.1), omega (arith, fits, fits_slot layout ClientReplies other))
+made_fits WalPrepares layout n other fits =
+    (omega (arith, fits, layout.message_size_within.1), omega (arith, fits, fits_slot layout WalPrepares other))
+made_fits ClientReplies layout n other fits =
+    (omega (arith, fits, layout.message_size_within.1), omega (arith, fits, fits_slot layout ClientReplies other))
 made_fits Grid layout n other fits = (omega (arith, fits, layout.block_size_within.1), omega (arith, fits, fits_slot layout Grid other))
 
 -- bytes put back over all of a room

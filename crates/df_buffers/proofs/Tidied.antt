@@ -6,7 +6,8 @@ use Rattle.df_format.{specs.{declared.header.Header.{Header}, declared.kind.Kind
 use Rattle.df_buffers.{specs.{Rooms.{StandsIn, room_size}, Sounds.{EndsInZeros, Holding, IsSound, IsTidy, holding_of, unit_with}}, proofs.Finds.{ends, found_whole, is_no_ring}}
 
 -- elsewhere than in the header ring a place has whole sectors, and a unit its body
-beside_ring : (layout : Layout) (zone : Zone) (h : Header) (body : List ℕ) → zone ≢ WalHeaders → (place_size layout zone ≡ room_size layout zone) × (HasBody zone h body → IsBodyOf h body)
+beside_ring : (layout : Layout) (zone : Zone) (h : Header) (body : List ℕ)
+    → zone ≢ WalHeaders → (place_size layout zone ≡ room_size layout zone) × (HasBody zone h body → IsBodyOf h body)
 beside_ring layout WalHeaders h body beside = absurd (beside refl)
 beside_ring layout Superblock h body beside = (refl, λ has. has)
 beside_ring layout WalPrepares h body beside = (refl, λ has. has)
@@ -28,15 +29,10 @@ all_zeros (suc e) zero = refl
 all_zeros (suc e) (suc k) = ap (λ (l : List ℕ). 0 ∷ l) (all_zeros e k)
 
 zeros_after : (xs : List ℕ) (e k : ℕ) → length xs ≤ e → EndsInZeros (length xs) (take e (xs ++ zeros k))
-zeros_after [] e k to =
-    let n : ℕ = length (take e (zeros k)) in
-    let same : n ≡ n - 0 = omega arith in
-    all_zeros e k ∙ ap zeros same
+zeros_after [] e k to = let n : ℕ = length (take e (zeros k)) in let same : n ≡ n - 0 = omega arith in all_zeros e k ∙ ap zeros same
 zeros_after (x ∷ xs) zero k to = absurd (omega arith)
-zeros_after (x ∷ xs) (suc e) k to =
-    let n : ℕ = length (take e (xs ++ zeros k)) in
-    let same : n - length xs ≡ suc n - suc (length xs) = omega arith in
-    zeros_after xs e k (omega arith) ∙ ap zeros same
+zeros_after (x ∷ xs) (suc e) k to = let n : ℕ = length (take e (xs ++ zeros k)) in
+    let same : n - length xs ≡ suc n - suc (length xs) = omega arith in zeros_after xs e k (omega arith) ∙ ap zeros same
 
 -- ---- a room
 
@@ -46,7 +42,8 @@ pub record IsStill (zone : Zone) (kind : Kind) (held : Holding) (after : List �
   pub sound : IsSound zone kind (holding_of held.layout held.unit.header after)
   pub tidy : IsTidy (holding_of held.layout held.unit.header after)
 
-module _ (zone : Zone) (kind : Kind) (held : Holding) (stands : StandsIn kind zone) (sound : IsSound zone kind held) (bytes : AreBytes held.bytes) (after : List ℕ)
+module _ (zone : Zone) (kind : Kind)
+    (held : Holding) (stands : StandsIn kind zone) (sound : IsSound zone kind held) (bytes : AreBytes held.bytes) (after : List ℕ)
     (blank : after ≡ take held.unit.header.size held.bytes ++ replicate (length held.bytes - held.unit.header.size) 0) where
   abbrev u : Message
   u = held.unit
@@ -54,17 +51,20 @@ module _ (zone : Zone) (kind : Kind) (held : Holding) (stands : StandsIn kind zo
   beside : sound.place.zone ≢ WalHeaders
   beside ring = is_no_ring kind zone stands (sym sound.in_zone ∙ ring)
 
-  parts : (place_size held.layout sound.place.zone ≡ room_size held.layout sound.place.zone) × (HasBody sound.place.zone u.header u.body → IsBodyOf u.header u.body)
+  parts : (place_size held.layout sound.place.zone ≡ room_size held.layout sound.place.zone)
+      × (HasBody sound.place.zone u.header u.body → IsBodyOf u.header u.body)
   parts = beside_ring held.layout sound.place.zone u.header u.body beside
 
   begun : BeginsWithUnit held.layout u.header.cluster sound.place held.bytes u
-  begun = (one_unit held.layout u.header.cluster sound.place held.bytes u (subst (λ (z : Zone). length held.bytes ≡ room_size held.layout z) (sym sound.in_zone) sound.fills ∙ sym parts.0) bytes).0 sound.valid
+  begun = (one_unit held.layout u.header.cluster sound.place held.bytes u
+      (subst (λ (z : Zone). length held.bytes ≡ room_size held.layout z) (sym sound.in_zone) sound.fills ∙ sym parts.0) bytes).0 sound.valid
 
   long : length (unit_bytes u) ≡ u.header.size
   long = omega (arith, length-unit u sound.is.sealed, (parts.1 sound.is.body).size)
 
   front : take u.header.size held.bytes ≡ unit_bytes u
-  front = ap (λ (n : ℕ). take n held.bytes) (sym long) ∙ ap (λ (l : List ℕ). take (length (unit_bytes u)) l) begun.spelled ∙ cut (unit_bytes u) begun.rest
+  front = ap (λ (n : ℕ). take n held.bytes) (sym long)
+      ∙ ap (λ (l : List ℕ). take (length (unit_bytes u)) l) begun.spelled ∙ cut (unit_bytes u) begun.rest
 
   spelled : after ≡ unit_bytes u ++ replicate (length held.bytes - u.header.size) 0
   spelled = blank ∙ ap (λ (l : List ℕ). l ++ replicate (length held.bytes - u.header.size) 0) front
@@ -79,9 +79,9 @@ module _ (zone : Zone) (kind : Kind) (held : Holding) (stands : StandsIn kind zo
   fills = omega (arith, ap (λ (l : List ℕ). length l) blank, length-append (take u.header.size held.bytes) (replicate (length held.bytes - u.header.size) 0), length-take u.header.size held.bytes, length-replicate {A = ℕ} (length held.bytes - u.header.size) 0, (ends zone kind held stands sound).size)
 
   tidy : EndsInZeros (256 + length u.body) (take (sectors_end u.header.size) after)
-  tidy =
-      subst (λ (l : List ℕ). EndsInZeros (256 + length u.body) (take (sectors_end u.header.size) l)) (sym spelled)
-      (subst (λ (n : ℕ). EndsInZeros n (take (sectors_end u.header.size) (unit_bytes u ++ replicate (length held.bytes - u.header.size) 0))) (length-unit u sound.is.sealed)
+  tidy = subst (λ (l : List ℕ). EndsInZeros (256 + length u.body) (take (sectors_end u.header.size) l)) (sym spelled)
+      (subst (λ (n : ℕ). EndsInZeros n (take (sectors_end u.header.size) (unit_bytes u ++ replicate (length held.bytes - u.header.size) 0)))
+      (length-unit u sound.is.sealed)
       (zeros_after (unit_bytes u) (sectors_end u.header.size) (length held.bytes - u.header.size) (omega (arith, long))))
 
   pub blanked : IsStill zone kind held after

@@ -1,7 +1,6 @@
 -- The addresses of a chain's links, and the least one that is referenced.
 use Rattle.std.proofs.{Common.{◌≡◌, ℕ, ◌<◌, ◌==◌, ◌||◌, Bool, true, false, List, [], ◌∷◌, length, get_or, refl, subst, arith, eqb-true}, lemmas.Bool.Decides.{nat_tests}, lemmas.List.Folds.{list_any_at}}
-use Rattle.df_trailer.specs.declared.reader.Reader.{Reader}
-use Rattle.df_grid.specs.Grid.{GridState, HasAddress}
+use Rattle.{df_trailer.specs.declared.reader.Reader.{Reader}, df_grid.specs.Grid.{GridState, HasAddress}}
 use Rattle.df_checkpoint.specs.{declared.links.Link.{Link}, Chain.{AreDistinctLinks, is_among}, Adopting.{IsFirstReferenced, LiveRefused}}
 
 -- each link's address is among those of the chain
@@ -18,5 +17,6 @@ among_inside g (r ∷ rs) a apart is = go (r.address == a) refl (λ more. among_
     go false e others h = others h
 
 -- where one is referenced, nothing is adopted
-pub first_refused : (g : GridState) (reader : Reader) (refs : List Link) (at : ℕ) → AreDistinctLinks g refs → IsFirstReferenced reader refs at → LiveRefused g reader refs at
+pub first_refused : (g : GridState) (reader : Reader) (refs : List Link) (at : ℕ)
+    → AreDistinctLinks g refs → IsFirstReferenced reader refs at → LiveRefused g reader refs at
 first_refused g reader refs at apart first = record { inside = among_inside g refs at apart first.chained; chained = first.chained; known = first.known; least = λ a inside less among. first.least a less among }

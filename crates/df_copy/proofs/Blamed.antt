@@ -1,12 +1,12 @@
 -- What is said of endings: which disk each blames, and what is left where a call is Ok.
-use Rattle.std.{proofs.Common.{◌≡◌, ◌∙◌, ℕ, Result, Ok, Err, refl}, specs.Prelude.{OnOk}}
-use Rattle.df_base.specs.Causes.{Blamed, IsBlamed}
+use Rattle.{std.{proofs.Common.{◌≡◌, ◌∙◌, ℕ, Result, Ok, Err, refl}, specs.Prelude.{OnOk}}, df_base.specs.Causes.{Blamed, IsBlamed}}
 use Rattle.df_model.specs.{Faults.{is_lookup_fault, is_read_fault}, declared.reading.LookupError.{LookupError}, declared.reading.ReadError.{ReadError}}
 use Rattle.df_model.specs.declared.reading.LookupError.TheVariants as lookup
 use Rattle.df_model.specs.declared.reading.ReadError.TheVariants as read
 use Rattle.df_copy.specs.{declared.ending.Ending.{Ending}, declared.ending.Ending.TheVariants.{BlockTooLong, Damaged, NotAtRest, NotBlank, ReplyTooLong, Source, Target, TooFewBlocks, TooFewClients}, Acts.{Beside, LeavesSource}, Statuses.{ByEnding, copied_block_ending, is_source, is_target, reply_ending}}
 
-pub by_ending : {T S U V : Type 0} {P Q : Ending → Type 0} → (T → U) → (S → V) → ((e : Ending) → P e → Q e) → (e : Ending) → ByEnding T S P e → ByEnding U V Q e
+pub by_ending : {T S U V : Type 0} {P Q : Ending → Type 0}
+    → (T → U) → (S → V) → ((e : Ending) → P e → Q e) → (e : Ending) → ByEnding T S P e → ByEnding U V Q e
 by_ending target source refused Target is = target is
 by_ending target source refused Source is = source is
 by_ending target source refused (NotAtRest a b c) is = refused (NotAtRest a b c) is
@@ -36,12 +36,14 @@ unblamed (Err (Damaged a b)) before now other same = same
 
 -- a read that fails blames it exactly where its disk failed, and never the target's
 module _ (before now : ℕ) where
-  pub block_blamed : (e : ReadError) → (e ≡ read.NotLive → ⊥) → Blamed (is_read_fault e) before now → Blamed (is_source (copied_block_ending e)) before now
+  pub block_blamed : (e : ReadError)
+      → (e ≡ read.NotLive → ⊥) → Blamed (is_read_fault e) before now → Blamed (is_source (copied_block_ending e)) before now
   block_blamed read.DiskFault live blamed = blamed
   block_blamed (read.Damaged at class) live blamed = blamed
   block_blamed read.NotLive live blamed = absurd (live refl)
 
-  pub reply_blamed : (e : LookupError) → (e ≡ lookup.NoClient → ⊥) → ((op : ℕ) → e ≡ lookup.ReplyPending op → ⊥) → Blamed (is_lookup_fault e) before now → Blamed (is_source (reply_ending e)) before now
+  pub reply_blamed : (e : LookupError) → (e ≡ lookup.NoClient → ⊥)
+      → ((op : ℕ) → e ≡ lookup.ReplyPending op → ⊥) → Blamed (is_lookup_fault e) before now → Blamed (is_source (reply_ending e)) before now
   reply_blamed lookup.DiskFault known stored blamed = blamed
   reply_blamed (lookup.Damaged at class) known stored blamed = blamed
   reply_blamed lookup.NoClient known stored blamed = absurd (known refl)
@@ -59,7 +61,8 @@ reply_spares lookup.NoClient count = refl
 reply_spares (lookup.ReplyPending op) count = refl
 
 -- what one call leaves and then another, after one that is Ok
-pub leaves_then : {T U : Type 0} {a b c : Beside} {x : U} {r : Result T Ending} → LeavesSource {T = U} a b (Ok x) → LeavesSource b c r → LeavesSource a c r
+pub leaves_then : {T U : Type 0} {a b c : Beside} {x : U} {r : Result T Ending}
+    → LeavesSource {T = U} a b (Ok x) → LeavesSource b c r → LeavesSource a c r
 leaves_then {r = Ok y} first behind = record { kept = behind.kept ∙ first.kept; same = behind.same ∙ first.same; blames_source = behind.blames_source ∙ first.blames_source; blames_target = behind.blames_target ∙ first.blames_target }
 leaves_then {c = c} {r = Err e} first behind = record {
   kept = tt;

@@ -1,9 +1,7 @@
 -- What the status of a copy blames, and what becomes of a source that isn't opened.
 use Rattle.std.{proofs.Common.{◌≡◌, inl, inr, ℕ, ◌<◌, ◌≤◌, Bool, true, false, List, [], ◌∷◌, length, map, Option, Some, None, Err, refl, sym, ◌∙◌, ap, arith}, specs.Prelude.{IfNone, get_or}}
-use Rattle.df_base.specs.{Causes.{Blamed}, Image.{IsImage}, Log.{Sync}}
-use Rattle.df_disk.specs.Told.{Told, after}
-use Rattle.df_layout.specs.declared.layout.Layout.{Layout}
-use Rattle.df_model.specs.declared.errors.OpenError.{OpenError}
+use Rattle.{df_base.specs.{Causes.{Blamed}, Image.{IsImage}, Log.{Sync}}, df_disk.specs.Told.{Told, after}}
+use Rattle.{df_layout.specs.declared.layout.Layout.{Layout}, df_model.specs.declared.errors.OpenError.{OpenError}}
 use Rattle.df_model.specs.declared.errors.OpenError.TheVariants as opens
 use Rattle.df_opening.specs.{Opened.{StopsOpening}, Surveying.{TellsSurvey}}
 use Rattle.df_program.{specs.{Telling.{Blames, PrintsError, Writes}, Two.{Faults, HasCausesOfTwo, Outside}, Names.{NamesLayout, OneLayout}}, proofs.Laws.{first_causes, open_fault, printed_causes, refusal_ends, second_causes, text_ends}}
@@ -17,11 +15,14 @@ module _ (before now : Faults) (old new : Option (List ℕ)) (status : Status) (
   Causes = HasCausesOfTwo ends.DiskFault ends.WriteFault before now status
 
   -- a refusal was printed
-  refused_causes : (e : Ending) → now.first ≡ before.first → now.second ≡ before.second → Writes ends.WriteFault (ending_text e) ends.Refused old new status → Causes
-  refused_causes e one two printed = printed_causes ends.DiskFault ends.WriteFault before now status blame (λ no. cc) old new (ending_text e) ends.Refused (λ no. cc) one two printed
+  refused_causes : (e : Ending)
+      → now.first ≡ before.first → now.second ≡ before.second → Writes ends.WriteFault (ending_text e) ends.Refused old new status → Causes
+  refused_causes e one two printed = printed_causes ends.DiskFault ends.WriteFault before now status blame (λ no.
+      cc) old new (ending_text e) ends.Refused (λ no. cc) one two printed
 
   -- no copy is made, or none whole
-  pub ending_causes : (e : Ending) → Blamed (is_source e) before.first now.first → Blamed (is_target e) before.second now.second → (is_fault e ≡ false → Writes ends.WriteFault (ending_text e) ends.Refused old new status)
+  pub ending_causes : (e : Ending) → Blamed (is_source e) before.first now.first → Blamed (is_target e) before.second now.second
+      → (is_fault e ≡ false → Writes ends.WriteFault (ending_text e) ends.Refused old new status)
       → (is_fault e ≡ true → (status ≡ ends.DiskFault) × (new ≡ old)) → Causes
   ending_causes Source one two refused fault = first_causes ends.DiskFault ends.WriteFault before now status blame (fault refl).0 one two
   ending_causes Target one two refused fault = second_causes ends.DiskFault ends.WriteFault before now status blame (fault refl).0 one two
@@ -58,17 +59,21 @@ module _ (old new : Option (List ℕ)) (status : Status) where
   ending_prints T layout (BlockTooLong a b) refused fault = refused refl
   ending_prints T layout (Damaged a b) refused fault = refused refl
 
-  by_ending : (b : Bool) (text : List ℕ) → (b ≡ false → Writes ends.WriteFault text ends.Refused old new status) → (b ≡ true → (status ≡ ends.DiskFault) × (new ≡ old)) → EndsWithFiles status
+  by_ending : (b : Bool) (text : List ℕ) → (b ≡ false → Writes ends.WriteFault text ends.Refused old new status)
+      → (b ≡ true → (status ≡ ends.DiskFault) × (new ≡ old)) → EndsWithFiles status
   by_ending true text refused fault = let is = (fault refl).0 in (λ memory. cc (is, memory), λ words. cc (is, words))
   by_ending false text refused fault = (text_ends ends.WriteFault text ends.Refused ends.Memory old new status (refused refl) (λ no. cc) (λ no. cc), text_ends ends.WriteFault text ends.Refused ends.Words old new status (refused refl) (λ no. cc) (λ no. cc))
 
-  pub ending_ends : (e : Ending) → (is_fault e ≡ false → Writes ends.WriteFault (ending_text e) ends.Refused old new status) → (is_fault e ≡ true → (status ≡ ends.DiskFault) × (new ≡ old)) → EndsWithFiles status
+  pub ending_ends : (e : Ending) → (is_fault e ≡ false → Writes ends.WriteFault (ending_text e) ends.Refused old new status)
+      → (is_fault e ≡ true → (status ≡ ends.DiskFault) × (new ≡ old)) → EndsWithFiles status
   ending_ends e refused fault = by_ending (is_fault e) (ending_text e) refused fault
 
 -- ---- a source that isn't opened
 
-pub not_opened : (layout own : Layout) (t : Told) (old new : Outside) (status : Status) (e : OpenError) → IsImage t.shown → old.first ≡ Some t → TellsSurvey own old.first (Err e) → new.second ≡ old.second → ((e ≡ opens.DiskFault → ⊥) → new.first ≡ after Sync old.first)
-    → (IsImage t.shown → e ≡ opens.DiskFault → StopsOpening own t new.first) → PrintsError ends.Refused ends.DiskFault ends.WriteFault e old.written new.written status → DoesCopy layout own t old new status
+pub not_opened : (layout own : Layout) (t : Told) (old new : Outside) (status : Status) (e : OpenError) → IsImage t.shown → old.first
+    ≡ Some t → TellsSurvey own old.first (Err e) → new.second ≡ old.second → ((e ≡ opens.DiskFault → ⊥) → new.first ≡ after Sync old.first)
+    → (IsImage t.shown → e ≡ opens.DiskFault → StopsOpening own t new.first)
+    → PrintsError ends.Refused ends.DiskFault ends.WriteFault e old.written new.written status → DoesCopy layout own t old new status
 not_opened layout own t old new status e whole told answer silent barrier stops prints = elim (open_fault e) [
   | inl fault ↦ inr (inl (record { fault = (prints.failing fault).0; silent = record { second = silent; written = (prints.failing fault).1 }; disk = stops whole fault }))
   | inr other ↦ inl (record {
@@ -83,13 +88,14 @@ not_opened layout own t old new status e whole told answer silent barrier stops 
 
 -- ---- words
 
-pub one_meaning : (words : List (List ℕ)) (layout other : Layout) → OneLayout → MeansLayout words layout → MeansLayout words other → layout ≡ other
-one_meaning words layout other one m n =
-    let same : m.0 ≡ n.0 = ap (λ (ws : List (List ℕ)). get_or ws 0 []) (sym m.1 ∙ n.1) in
+pub one_meaning : (words : List (List ℕ)) (layout other : Layout)
+    → OneLayout → MeansLayout words layout → MeansLayout words other → layout ≡ other
+one_meaning words layout other one m n = let same : m.0 ≡ n.0 = ap (λ (ws : List (List ℕ)). get_or ws 0 []) (sym m.1 ∙ n.1) in
     one n.0 layout other (rw same at m.2) n.2
 
 -- one word is the name
-pub one_name : {X : Type 0} (bytes : X → List ℕ) (words : List X) (word : X) (name : List ℕ) (r : Option Layout) → word ≡ get_or words 0 word → 1 ≤ length words → length words < 2 → name ≡ bytes word
+pub one_name : {X : Type 0} (bytes : X → List ℕ) (words : List X) (word : X) (name : List ℕ) (r : Option Layout)
+    → word ≡ get_or words 0 word → 1 ≤ length words → length words < 2 → name ≡ bytes word
     → IfNone r ((layout : Layout) → NamesLayout name layout → ⊥) → IfNone r (MeansNoLayout (map bytes words))
 one_name bytes words word name (Some layout) at least below is none = tt
 one_name bytes [] word name None at least below is none = absurd (omega (arith, least))

@@ -1,10 +1,7 @@
 -- A history begins at an image that shows a copy.
-use Rattle.std.proofs.Common.{◌≡◌, inl, inr, [], Some, None, sym, ◌∙◌}
-use Rattle.df_base.specs.Image.{Image}
-use Rattle.df_layout.specs.declared.layout.Layout.{Layout}
+use Rattle.{std.proofs.Common.{◌≡◌, inl, inr, [], Some, None, sym, ◌∙◌}, df_base.specs.Image.{Image}, df_history.specs.Lives.{Starts}}
+use Rattle.{df_layout.specs.declared.layout.Layout.{Layout}, df_trailer.specs.Text.{parse_of}}
 use Rattle.df_theory.{specs.{Holds.{Holds}, Shape.{Shape}, Units.{PrepareUnit, Units}, View.{View}}, proofs.Laws.{clean_start_law}}
-use Rattle.df_history.specs.Lives.{Starts}
-use Rattle.df_trailer.specs.Text.{parse_of}
 use Rattle.df_units.{specs.{Bytes.{unit_at}, Meaning.{layout_of}}, proofs.Laws.{of_places}}
 use Rattle.df_opening.specs.Below.{AreDistinctUnits, DataFile, shape}
 use Rattle.df_copy.specs.{Lives.{MayGoOn, ShownCopyBegins}, Views.{ShowsCopy, file_in}}
@@ -20,7 +17,8 @@ module _ (layout : Layout) (file : DataFile) (source : Image) (v : View) (target
   u = copy.view
 
   pub holds : Holds sh image u
-  holds = (clean_start_law sh image u (of_places layout file.cluster file.named (parse_of (layout_of layout)) target copy.image) copy.found copy.clean).holds
+  holds = (clean_start_law
+      sh image u (of_places layout file.cluster file.named (parse_of (layout_of layout)) target copy.image) copy.found copy.clean).holds
 
   pub starts : Starts image [] u
   starts = record {

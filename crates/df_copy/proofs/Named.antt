@@ -1,8 +1,7 @@
 -- The checksums of replies, as those of a list of messages: whatever was set at places of sessions.
 use Rattle.std.{proofs.{Common.{◌≡◌, inl, inr, ℕ, zero, suc, ◌<◌, ◌≤◌, List, [], ◌∷◌, length, take, map, refl, sym, ◌∙◌, ap, arith}, lemmas.Bool.{cases_lt}, lemmas.List.{ext_get_or, get_or-set_other, length-set}, lemmas.List.FromFn.{get_or-map-range_with_len}}, specs.Prelude.{get_or, slice_get}}
-use Rattle.df_base.proofs.Laws.{zero_plus}
+use Rattle.{df_base.proofs.Laws.{zero_plus}, df_model.specs.Making.{named_places}}
 use Rattle.df_format.specs.{Making.{blank_header}, Message.{Message}, Spelling.{no_checksum}, declared.kind.Kind.TheVariants.{Reply}}
-use Rattle.df_model.specs.Making.{named_places}
 use Rattle.df_copy.{specs.{Acts.{SetsCheck}, Targets.{check_of, checks_of}}, proofs.Listed.{many_checks}}
 
 -- no place after the sessions has a checksum
@@ -19,11 +18,13 @@ named_none sessions checks is = record {
   spare = λ k from within. ap (λ (l : List (List ℕ)). get_or l k no_checksum) is ∙ check_there [] k within;
 }
 
-pub named_more : (sessions : ℕ) (before behind : List (List ℕ)) → AreNamed sessions before → SetsCheck sessions before behind → AreNamed sessions behind
+pub named_more : (sessions : ℕ) (before behind : List (List ℕ))
+    → AreNamed sessions before → SetsCheck sessions before behind → AreNamed sessions behind
 named_more sessions before behind are sets = record {
   count = ap (λ (l : List (List ℕ)). length l) sets.set ∙ length-set before sets.place sets.check ∙ are.count;
   spare = λ k from within.
-      ap (λ (l : List (List ℕ)). get_or l k no_checksum) sets.set ∙ get_or-set_other before sets.place k sets.check no_checksum (λ same. omega (arith, same, from, sets.inside)) ∙ are.spare k from within;
+      ap (λ (l : List (List ℕ)). get_or l k no_checksum) sets.set ∙ get_or-set_other before sets.place k sets.check no_checksum (λ same.
+      omega (arith, same, from, sets.inside)) ∙ are.spare k from within;
 }
 
 -- ---- a list that has them
@@ -52,11 +53,13 @@ front_past (suc n) k [] past = refl
 front_past (suc n) zero (c ∷ checks) past = absurd (omega (arith, past))
 front_past (suc n) (suc k) (c ∷ checks) past = front_past n k checks (omega (arith, past))
 
-pub named_by : (n : ℕ) (checks : List (List ℕ)) → n ≤ named_places → AreNamed n checks → (us : List Message) × (length us ≡ n) × (checks ≡ checks_of us)
+pub named_by : (n : ℕ) (checks : List (List ℕ))
+    → n ≤ named_places → AreNamed n checks → (us : List Message) × (length us ≡ n) × (checks ≡ checks_of us)
 named_by n checks few are = (front n checks, front_length n checks (omega (arith, few, are.count)), ext_get_or no_checksum checks (checks_of (front n checks)) (are.count ∙ sym (many_checks (front n checks))) same)
   where
     same : (k : ℕ) → k < length checks → get_or checks k no_checksum ≡ get_or (checks_of (front n checks)) k no_checksum
     same k within = elim (cases_lt k n) [
       | inl inside ↦ sym (check_there (front n checks) k (omega (arith, within, are.count)) ∙ front_there n k checks inside)
-      | inr past ↦ are.spare k past (omega (arith, within, are.count)) ∙ sym (check_there (front n checks) k (omega (arith, within, are.count)) ∙ front_past n k checks past)
+      | inr past ↦ are.spare k past (omega (arith, within, are.count))
+          ∙ sym (check_there (front n checks) k (omega (arith, within, are.count)) ∙ front_past n k checks past)
     ]

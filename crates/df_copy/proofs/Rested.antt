@@ -19,7 +19,8 @@ pub record IsEarlier (c : Content) (r : Message) : Type 0 where
   pub checkpoint : r.header.checkpoint ≤ c.sequence
   pub boot : r.header.boot < c.boot
 
--- what a file at rest shows: two copies that agree, and none of another content; reserved headers alone, no prepare, and for each session the reply that its checksum names
+-- what a file at rest shows: two copies that agree, and none of another content; reserved headers alone, no prepare, and for each session
+-- the reply that its checksum names
 pub record ShowsRest (sh : Shape) (image : Units) (b : Checkpoint) (stored : ℕ → Option Message) : Type 0 where
   pub agreed : Agree image b.content
   pub only : (n : ℕ) (d : Content) → n < 4 → image (CopyPlace n) ≡ Some (CopyUnit d) → d ≡ b.content
@@ -27,10 +28,12 @@ pub record ShowsRest (sh : Shape) (image : Units) (b : Checkpoint) (stored : ℕ
   pub prepares : (s : ℕ) → image (PreparePlace s) ≡ None
   pub chain : (a : ℕ) (x : Block) → InChain a x b.chain → image (BlockPlace a) ≡ Some (BlockUnit x)
   pub replies : (k : ℕ) (r : Message) → image (ReplyPlace k) ≡ Some (ReplyUnit r) → IsEarlier b.content r
-  pub shown : (k : ℕ) (s : Session) → slice_get b.parts.sessions k ≡ Some s → (r : Message) × (stored k ≡ Some r) × (image (ReplyPlace k) ≡ Some (ReplyUnit r)) × Answers s r × (slice_index b.content.reply_checksums k ≡ r.header.checksum)
+  pub shown : (k : ℕ) (s : Session) → slice_get b.parts.sessions k ≡ Some s → (r : Message) × (stored k ≡ Some r)
+      × (image (ReplyPlace k) ≡ Some (ReplyUnit r)) × Answers s r × (slice_index b.content.reply_checksums k ≡ r.header.checksum)
   pub no_more : (k : ℕ) (r : Message) → stored k ≡ Some r → (s : Session) × (slice_get b.parts.sessions k ≡ Some s)
 
-module _ (sh : Shape) (image : Units) (b : Checkpoint) (stored : ℕ → Option Message) (sound : IsSoundCheckpoint sh b) (all : NamesAll b.content) (shows : ShowsRest sh image b stored) where
+module _ (sh : Shape) (image : Units) (b : Checkpoint)
+    (stored : ℕ → Option Message) (sound : IsSoundCheckpoint sh b) (all : NamesAll b.content) (shows : ShowsRest sh image b stored) where
   abbrev c : Content
   c = b.content
 
@@ -40,8 +43,7 @@ module _ (sh : Shape) (image : Units) (b : Checkpoint) (stored : ℕ → Option 
   chosen : IsChosen image c
   chosen = record {
     agreed = shows.agreed;
-    greatest = λ d agree.
-        let same : d ≡ c = shows.only agree.second d agree.inside agree.at_second in
+    greatest = λ d agree. let same : d ≡ c = shows.only agree.second d agree.inside agree.at_second in
         omega (arith, ap (λ (e : Content). e.sequence) same, ap (λ (e : Content). e.boot) same);
     lowest = λ d agree level n inside is. (n, omega arith, is ∙ ap (λ (e : Content). Some (CopyUnit e)) (shows.only n d inside is));
   }
@@ -65,7 +67,8 @@ module _ (sh : Shape) (image : Units) (b : Checkpoint) (stored : ℕ → Option 
   below : (k : ℕ) (s : Session) → slice_get b.parts.sessions k ≡ Some s → s.op ≤ c.op
   below k s at = sound.tracks.below k s at
 
-  named : (k : ℕ) (s : Session) (r : Message) → s.op ≤ c.op → Answers s r → slice_index c.reply_checksums k ≡ r.header.checksum → IsNamed c k r
+  named : (k : ℕ) (s : Session) (r : Message)
+      → s.op ≤ c.op → Answers s r → slice_index c.reply_checksums k ≡ r.header.checksum → IsNamed c k r
   named k s r low answers sum = record { old = λ below. sum; new = λ above. absurd (omega (arith, above, low, answers.op, all.answered)) }
 
   is_stored : IsStored image v
@@ -111,14 +114,16 @@ module _ (sh : Shape) (image : Units) (b : Checkpoint) (stored : ℕ → Option 
   }
 
   -- all four copies, and a header in each slot
-  pub rest_whole : ((n : ℕ) → n < 4 → image (CopyPlace n) ≡ Some (CopyUnit c)) → ((s : ℕ) → s < slots sh → (h : Header) × (image (HeaderPlace s) ≡ Some (HeaderUnit h))) → IsWhole sh image v
+  pub rest_whole : ((n : ℕ) → n < 4 → image (CopyPlace n) ≡ Some (CopyUnit c))
+      → ((s : ℕ) → s < slots sh → (h : Header) × (image (HeaderPlace s) ≡ Some (HeaderUnit h))) → IsWhole sh image v
   rest_whole copies slots_show = record {
     copies = copies;
     headers = λ s inside. let there = slots_show s inside in (there.0, there.1, λ p at. absurd at);
   }
 
 -- it is shown where all but the copies is as it was
-module _ (sh : Shape) (shown image : Units) (b : Checkpoint) (stored : ℕ → Option Message) (shows : ShowsRest sh shown b stored) (same : (place : Place) → (IsCopy place → ⊥) → image place ≡ shown place) (agreed : Agree image b.content)
+module _ (sh : Shape) (shown image : Units) (b : Checkpoint) (stored : ℕ → Option Message) (shows : ShowsRest sh shown b stored)
+    (same : (place : Place) → (IsCopy place → ⊥) → image place ≡ shown place) (agreed : Agree image b.content)
     (only : (n : ℕ) (d : Content) → n < 4 → image (CopyPlace n) ≡ Some (CopyUnit d) → d ≡ b.content) where
   pub moved_rest : ShowsRest sh image b stored
   moved_rest = record {

@@ -104,7 +104,8 @@ target (ReplyPlace zero) = Some (ReplyUnit reply)
 target (ReplyPlace (suc k)) = None
 target (BlockPlace a) = block_at a
 
-is_address : (address sum a found : ℕ) → (b : Bool) → (a == address) ≡ b → (if b then Some sum else None) ≡ Some found → (a ≡ address) × (sum ≡ found)
+is_address : (address sum a found : ℕ)
+    → (b : Bool) → (a == address) ≡ b → (if b then Some sum else None) ≡ Some found → (a ≡ address) × (sum ≡ found)
 is_address address sum a found true here at = (eqb-true a address here, (let both : Some sum ≡ Some found = at in cc))
 is_address address sum a found false here at = absurd (let both : None ≡ Some found = at in cc)
 
@@ -131,7 +132,8 @@ copy = record {
   };
 }
   where
-    one_block : (i a : ℕ) (b : Block) → slice_get (own_block ∷ []) i ≡ Some (a, b) → (sum : ℕ) × (referenced 1 33 (i + 1) ≡ Some sum) × (target (BlockPlace (i + 1)) ≡ Some (BlockUnit (renamed sum b)))
+    one_block : (i a : ℕ) (b : Block) → slice_get (own_block ∷ []) i ≡ Some (a, b)
+        → (sum : ℕ) × (referenced 1 33 (i + 1) ≡ Some sum) × (target (BlockPlace (i + 1)) ≡ Some (BlockUnit (renamed sum b)))
     one_block zero a b at = (33, refl, ap (λ (x : ℕ × Block). Some (BlockUnit (renamed 33 x.1))) (same_Some own_block (a, b) at))
     one_block (suc i) a b at = absurd (omega (arith, slice_get_within (own_block ∷ []) (suc i) (a, b) at))
 
@@ -192,7 +194,8 @@ own_reply : (k : ℕ) (r : Message) → target (ReplyPlace k) ≡ Some (ReplyUni
 own_reply zero r at = let both : Some (ReplyUnit reply) ≡ Some (ReplyUnit r) = at in cc
 own_reply (suc k) r at = absurd (let both : None ≡ Some (ReplyUnit r) = at in cc)
 
-shown : (k : ℕ) (s : Session) → slice_get (session ∷ []) k ≡ Some s → (r : Message) × (stored k ≡ Some r) × (target (ReplyPlace k) ≡ Some (ReplyUnit r)) × Answers s r × (slice_index (6 ∷ []) k ≡ r.header.checksum)
+shown : (k : ℕ) (s : Session) → slice_get (session ∷ []) k ≡ Some s → (r : Message)
+    × (stored k ≡ Some r) × (target (ReplyPlace k) ≡ Some (ReplyUnit r)) × Answers s r × (slice_index (6 ∷ []) k ≡ r.header.checksum)
 shown zero s at = (reply, refl, refl, rw (← (one_session 0 s at).1) (record { client = refl; request = refl; op = refl }), refl)
 shown (suc k) s at = absurd (let both : None ≡ Some s = at in cc)
 
@@ -255,18 +258,23 @@ told = record {
 
 of_block : (a : ℕ) (x : AnyUnit) → block_at a ≡ Some x → IsOurs x × IsOfPlace shape (BlockPlace a) x
 of_block zero x at = absurd (let both : None ≡ Some x = at in cc)
-of_block (suc zero) x at = let both : Some (BlockUnit (renamed 33 block)) ≡ Some x = at in let same : BlockUnit (renamed 33 block) ≡ x = cc in (subst IsOurs same refl, (renamed 33 block, sym same, omega arith, λ i. low_bytes i))
-of_block (suc (suc zero)) x at = let both : Some (BlockUnit (trailer 32)) ≡ Some x = at in let same : BlockUnit (trailer 32) ≡ x = cc in (subst IsOurs same refl, (trailer 32, sym same, omega arith, λ i. low_bytes i))
+of_block (suc zero) x at = let both : Some (BlockUnit (renamed 33 block)) ≡ Some x = at in let same : BlockUnit (renamed 33 block) ≡ x =
+    cc in (subst IsOurs same refl, (renamed 33 block, sym same, omega arith, λ i. low_bytes i))
+of_block (suc (suc zero)) x at = let both : Some (BlockUnit (trailer 32)) ≡ Some x = at in
+    let same : BlockUnit (trailer 32) ≡ x = cc in (subst IsOurs same refl, (trailer 32, sym same, omega arith, λ i. low_bytes i))
 of_block (suc (suc (suc a))) x at = absurd (let both : None ≡ Some x = at in cc)
 
 in_range : IsInRange reply.header
 in_range = record { client = (omega arith, omega arith); request = (omega arith, omega arith); op = (omega arith, omega arith); checksums = (omega arith, omega arith) }
 
 ours : (place : Place) (x : AnyUnit) → target place ≡ Some x → IsOurs x × IsOfPlace shape place x
-ours (CopyPlace n) x at = let both : Some (CopyUnit c) ≡ Some x = at in let same : CopyUnit c ≡ x = cc in (subst IsOurs same refl, (c, sym same, omega arith))
-ours (HeaderPlace s) x at = let both : Some (HeaderUnit reserved) ≡ Some x = at in let same : HeaderUnit reserved ≡ x = cc in (subst IsOurs same refl, (reserved, sym same, omega arith, λ some. absurd (omega arith)))
+ours (CopyPlace n) x at = let both : Some (CopyUnit c) ≡ Some x = at in
+    let same : CopyUnit c ≡ x = cc in (subst IsOurs same refl, (c, sym same, omega arith))
+ours (HeaderPlace s) x at = let both : Some (HeaderUnit reserved) ≡ Some x = at in
+    let same : HeaderUnit reserved ≡ x = cc in (subst IsOurs same refl, (reserved, sym same, omega arith, λ some. absurd (omega arith)))
 ours (PreparePlace s) x at = absurd (let both : None ≡ Some x = at in cc)
-ours (ReplyPlace zero) x at = let both : Some (ReplyUnit reply) ≡ Some x = at in let same : ReplyUnit reply ≡ x = cc in (subst IsOurs same refl, (reply, sym same, in_range, record { first = refl; last = refl }))
+ours (ReplyPlace zero) x at = let both : Some (ReplyUnit reply) ≡ Some x = at in
+    let same : ReplyUnit reply ≡ x = cc in (subst IsOurs same refl, (reply, sym same, in_range, record { first = refl; last = refl }))
 ours (ReplyPlace (suc k)) x at = absurd (let both : None ≡ Some x = at in cc)
 ours (BlockPlace a) x at = of_block a x at
 
@@ -358,7 +366,8 @@ hurt_places : AreOfPlaces shape hurt
 hurt_places place x at = places place x (left place x at)
 
 hurt_holds : Holds shape hurt copied
-hurt_holds = (clean_start_law shape hurt copied hurt_places hurt_found (λ n d at away. clean n d (left (CopyPlace n) (CopyUnit d) at) away)).holds
+hurt_holds =
+    (clean_start_law shape hurt copied hurt_places hurt_found (λ n d at away. clean n d (left (CopyPlace n) (CopyUnit d) at) away)).holds
 
 -- ---- it is opened
 
@@ -413,10 +422,9 @@ abbrev next : UnitLog
 next = opened raised hurt (all_reserved ∷ []) copies (copies_of raised)
 
 reopened : IsReopened shape [] log hurt copied next (booted copied raised)
-reopened =
-    let law = open_lived_law shape log [] hurt copied lived may hurt_places hurt_found (λ s. reserved) (all_reserved ∷ []) copies raised (copies_of raised) opening in
-    let safe = (rests_law shape next (booted copied raised) law.1).0 in
-    record {
+reopened = let law = open_lived_law shape log [] hurt copied lived may hurt_places hurt_found (λ s.
+    reserved) (all_reserved ∷ []) copies raised (copies_of raised) opening in
+    let safe = (rests_law shape next (booted copied raised) law.1).0 in record {
       start = may;
       places = hurt_places;
       finds = hurt_found;

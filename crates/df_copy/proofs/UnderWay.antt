@@ -1,4 +1,5 @@
--- Where four copies are written one after the other on a target that showed none, a stop leaves two of them that agree, or none do; all else is as it was.
+-- Where four copies are written one after the other on a target that showed none, a stop leaves two of them that agree, or none do; all
+-- else is as it was.
 use Rattle.std.proofs.{Common.{◌≡◌, ◌⊎◌, inl, inr, ℕ, ◌+◌, ◌<◌, ◌≤◌, ◌||◌, false, Option, Some, None, refl, sym, ◌∙◌, ap, subst, arith}, lemmas.Bool.{cases_eq, cases_lt}}
 use Rattle.df_theory.specs.{Chance.{EachLeft, InPool, NoChance}, Copies.{Agree, IsSplit}, CopyPuts.{PutsCopies, update_steps}, Rests.{IsCopy}, Runs.{AtEach}, UnitLog.{IsLeftBy, PutsOne, Synced, UnitLog, add, loose, now, settled, wrote}, Units.{AnyUnit, Content, CopyPlace, CopyUnit, Place, Units, is_some, or_else}}
 use Rattle.df_copy.{specs.Stops.{AreSplit}, proofs.Untouched.{split_beside}}
@@ -28,7 +29,8 @@ module _ (c : Content) (then : Units) where
   module _ (k : ℕ) (log : UnitLog) (is : IsUnderWay k log) where
     -- ---- an image in which the next copy is anything
 
-    module _ (image : Units) (same : (place : Place) → (IsCopy place → ⊥) → image place ≡ then place) (copies : (n : ℕ) → n < 4 → (n ≡ k → ⊥) → image (CopyPlace n) ≡ now log (CopyPlace n))
+    module _ (image : Units) (same : (place : Place) → (IsCopy place → ⊥) → image place ≡ then place)
+        (copies : (n : ℕ) → n < 4 → (n ≡ k → ⊥) → image (CopyPlace n) ≡ now log (CopyPlace n))
         (at : (x : AnyUnit) → k < 4 → image (CopyPlace k) ≡ Some x → x ≡ CopyUnit c) where
       there : (n : ℕ) → n < 4 → n < k → image (CopyPlace n) ≡ Some (CopyUnit c)
       there n inside below = copies n inside (λ e. omega (arith, e, below)) ∙ is.first n below inside
@@ -40,9 +42,8 @@ module _ (c : Content) (then : Units) where
       partly = record {
         same = same;
         only = λ n d inside shows. elim (cases_eq n k) [
-          | inl here ↦
-              let one : CopyUnit d ≡ CopyUnit c = at (CopyUnit d) (omega (arith, here, inside)) (ap (λ (m : ℕ). image (CopyPlace m)) (sym here) ∙ shows) in
-              cc
+          | inl here ↦ let one : CopyUnit d ≡ CopyUnit c =
+              at (CopyUnit d) (omega (arith, here, inside)) (ap (λ (m : ℕ). image (CopyPlace m)) (sym here) ∙ shows) in cc
           | inr away ↦ elim (cases_lt n k) [
             | inl below ↦ let both : Some (CopyUnit d) ≡ Some (CopyUnit c) = sym shows ∙ there n inside below in cc
             | inr above ↦ absurd (let both : None ≡ Some (CopyUnit d) = sym (none n inside (omega (arith, above, away))) ∙ shows in cc)
@@ -68,7 +69,8 @@ module _ (c : Content) (then : Units) where
 
       decided : Decided log image
       decided = elim (cases_lt k 1) [
-        | inl before ↦ inl (split_beside image (λ n above inside. none n inside (omega (arith, above, before))), is.early (omega (arith, before)))
+        | inl before ↦
+            inl (split_beside image (λ n above inside. none n inside (omega (arith, above, before))), is.early (omega (arith, before)))
         | inr past ↦ elim (cases_lt k 2) [
           | inl second ↦ by_second (omega (arith, past, second)) (image (CopyPlace 1)) refl
           | inr more ↦ inr (two (there 0 (omega arith) (omega (arith, more))) (there 1 (omega arith) (omega (arith, more))))
@@ -78,8 +80,7 @@ module _ (c : Content) (then : Units) where
     -- ---- nothing is loose
 
     pub dry_leaves : Leaves log
-    dry_leaves image left chance =
-        let all : (place : Place) → image place ≡ now log place = λ place. left place (is.dry place) in
+    dry_leaves image left chance = let all : (place : Place) → image place ≡ now log place = λ place. left place (is.dry place) in
         decided image (λ place other. all place ∙ is.same place other) (λ n inside away. all (CopyPlace n))
         (λ x inside shows. absurd (let both : None ≡ Some x = sym (all (CopyPlace k) ∙ is.later k (omega arith) inside) ∙ shows in cc))
 
@@ -103,8 +104,7 @@ module _ (c : Content) (then : Units) where
       no_copy_else n away e = away (cc)
 
       else_left : (image : Units) → IsLeftBy behind image → (place : Place) → (place ≡ CopyPlace k → ⊥) → image place ≡ now log place
-      else_left image left place other =
-          let none_is = nothing place other in
+      else_left image left place other = let none_is = nothing place other in
           left place (λ i. is_some (none_is i) || is.dry place i) ∙ ap (λ (o : Option AnyUnit). or_else o (now log place)) none_is
 
       pooled : (image : Units) → NoChance behind image → (x : AnyUnit) → image (CopyPlace k) ≡ Some x → x ≡ CopyUnit c
@@ -116,7 +116,8 @@ module _ (c : Content) (then : Units) where
 
       pub wet_leaves : Leaves behind
       wet_leaves image left chance =
-          decided image (λ place other. else_left image left place (no_other place other) ∙ is.same place other) (λ n within away. else_left image left (CopyPlace n) (no_copy_else n away)) (λ x within shows. pooled image chance x shows)
+          decided image (λ place other. else_left image left place (no_other place other) ∙ is.same place other) (λ n within away.
+          else_left image left (CopyPlace n) (no_copy_else n away)) (λ x within shows. pooled image chance x shows)
 
       -- ---- and it is durable
 
@@ -152,14 +153,14 @@ module _ (c : Content) (then : Units) where
           | inl (inr old) ↦ is.pool n x within (inl old)
           | inr none ↦ absurd none
         ];
-        early = λ few. (split_beside (now behind) (λ n above within. none_now n (omega (arith, few, above)) within), is.early (omega (arith, few)));
+        early = λ few.
+            (split_beside (now behind) (λ n above within. none_now n (omega (arith, few, above)) within), is.early (omega (arith, few)));
       }
 
   -- ---- all four
 
   pub update_leaves : (puts : PutsCopies c) (log : UnitLog) → IsUnderWay 0 log → AtEach Leaves log (update_steps puts)
-  update_leaves puts log u0 =
-      let log1 : UnitLog = add Synced (wrote puts.put0 log) in
+  update_leaves puts log u0 = let log1 : UnitLog = add Synced (wrote puts.put0 log) in
       let u1 : IsUnderWay 1 log1 = next 0 log u0 (omega arith) puts.put0 puts.one0 in
       let log2 : UnitLog = add Synced (wrote puts.put1 log1) in
       let u2 : IsUnderWay 2 log2 = next 1 log1 u1 (omega arith) puts.put1 puts.one1 in

@@ -30,8 +30,7 @@ again_none (e ∷ es) b = inl refl
 pub part_is_events : PartIsEvents
 part_is_events [] t n is = record { part = []; is = same_Some n t is; again = λ b. refl }
 part_is_events (e ∷ es) t n (inl is) = record { part = []; is = same_Some n t is; again = again_none (e ∷ es) }
-part_is_events (e ∷ es) t n (inr more) =
-    let rest = part_is_events es (did e t) n more in
+part_is_events (e ∷ es) t n (inr more) = let rest = part_is_events es (did e t) n more in
     record { part = e ∷ rest.part; is = rest.is; again = λ b. inr (rest.again (did e b)) }
 
 -- ---- what stops leave
@@ -42,7 +41,8 @@ record Alike (a b : Log) : Type 0 where
   pub image : now a ≡ now b
 
 alike_add : (e : Event) (a b : Log) → Alike a b → Alike (add e a) (add e b)
-alike_add (Write at bytes) a b alike = record { wet = λ sector. ap (λ (x : Bool). covers at bytes sector || x) (alike.wet sector); image = ap (written at bytes) alike.image }
+alike_add (Write at bytes) a b alike =
+    record { wet = λ sector. ap (λ (x : Bool). covers at bytes sector || x) (alike.wet sector); image = ap (written at bytes) alike.image }
 alike_add Sync a b alike = record { wet = λ sector. refl; image = alike.image }
 alike_add (Stop changes) a b alike = record { wet = λ sector. refl; image = ap (changed changes) alike.image }
 
@@ -67,21 +67,25 @@ leaves_the_same events t image honest still =
 
 -- ---- after a barrier
 
-wet_add : (e : Event) (a b : Log) → ((sector : ℕ) → loose a sector ≡ loose b sector) → (sector : ℕ) → loose (add e a) sector ≡ loose (add e b) sector
+wet_add : (e : Event) (a b : Log)
+    → ((sector : ℕ) → loose a sector ≡ loose b sector) → (sector : ℕ) → loose (add e a) sector ≡ loose (add e b) sector
 wet_add (Write at bytes) a b same sector = ap (λ (x : Bool). covers at bytes sector || x) (same sector)
 wet_add Sync a b same sector = refl
 wet_add (Stop changes) a b same sector = refl
 
-wet_after : (events : List Event) (t b : Told) → ((sector : ℕ) → loose t.log sector ≡ loose b.log sector) → (sector : ℕ) → loose (told_after events t).log sector ≡ loose (told_after events b).log sector
+wet_after : (events : List Event) (t b : Told) → ((sector : ℕ) → loose t.log sector ≡ loose b.log sector)
+    → (sector : ℕ) → loose (told_after events t).log sector ≡ loose (told_after events b).log sector
 wet_after [] t b same sector = same sector
 wet_after (e ∷ es) t b same sector = wet_after es (did e t) (did e b) (wet_add e t.log b.log same) sector
 
-loose_too : (es fs : List Event) → ((sector : ℕ) → loose_of es sector ≡ loose_of fs sector) → (changes : List (ℕ × List ℕ)) → AreLoose es changes → AreLoose fs changes
+loose_too : (es fs : List Event)
+    → ((sector : ℕ) → loose_of es sector ≡ loose_of fs sector) → (changes : List (ℕ × List ℕ)) → AreLoose es changes → AreLoose fs changes
 loose_too es fs same [] are = tt
 loose_too es fs same (c ∷ cs) are = (sym (same c.0) ∙ are.0, are.1, loose_too es fs same cs are.2)
 
 pub stops_alike : StopsAlike
 stops_alike events t b changes same are = (
-  loose_too (told_after events (did Sync t)).log.events (told_after events (did Sync b)).log.events (wet_after events (did Sync t) (did Sync b) (λ sector. refl)) changes are,
+  loose_too (told_after events (did Sync t)).log.events
+      (told_after events (did Sync b)).log.events (wet_after events (did Sync t) (did Sync b) (λ sector. refl)) changes are,
   ap (changed changes) (same_goes_on events (did Sync t) (did Sync b) same),
 )

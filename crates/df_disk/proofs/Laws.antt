@@ -12,14 +12,16 @@ pub adds_part : {T E : Type 0} → (es : List Event) (old new : Option Told) (re
 adds_part es old new (Ok x) is = all_is_part es old new is
 adds_part es old new (Err e) is = is
 
-part_passes : (P : Log → Type 0) (es : List Event) (t : Told) (new : Option Told) → AtEach P t.log es → AddsPart es (Some t) new → PassedTo t new P
+part_passes : (P : Log → Type 0) (es : List Event) (t : Told) (new : Option Told)
+    → AtEach P t.log es → AddsPart es (Some t) new → PassedTo t new P
 part_passes P [] t new each is = subst (λ (o : Option Told). PassedTo t o P) (sym is) (stands P t.log each)
 part_passes P (e ∷ es) t new each (inl is) = subst (λ (o : Option Told). PassedTo t o P) (sym is) (stands P t.log each.0)
 part_passes P (e ∷ es) t None each (inr is) = part_passes P es (did e t) None each.1 is
 part_passes P (e ∷ es) t (Some u) each (inr is) = goes_on P e t.log u.log each.0 (part_passes P es (did e t) (Some u) each.1 is)
 
 -- a fact at each moment of some events is one of each moment of a call that adds them or a part of them
-pub passes : {T E : Type 0} → (P : Log → Type 0) (es : List Event) (t : Told) (new : Option Told) (result : Result T E) → AtEach P t.log es → Adds es (Some t) new result → PassedTo t new P
+pub passes : {T E : Type 0} → (P : Log → Type 0) (es : List Event) (t : Told) (new : Option Told) (result : Result T E)
+    → AtEach P t.log es → Adds es (Some t) new result → PassedTo t new P
 passes P es t new result each is = part_passes P es t new each (adds_part es (Some t) new result is)
 
 -- some of these events, and the others after them
@@ -43,7 +45,8 @@ after_append [] fs old = refl
 after_append (e ∷ es) fs old = after_append es fs (after e old)
 
 -- events, and a call that adds others after them
-pub adds_then : {T E : Type 0} → (es fs : List Event) (old mid new : Option Told) (result : Result T E) → mid ≡ after_all es old → Adds fs mid new result → Adds (es ++ fs) old new result
+pub adds_then : {T E : Type 0} → (es fs : List Event) (old mid new : Option Told) (result : Result T E)
+    → mid ≡ after_all es old → Adds fs mid new result → Adds (es ++ fs) old new result
 adds_then es fs old mid new (Ok x) is adds = adds ∙ ap (after_all fs) is ∙ sym (after_append es fs old)
 adds_then es fs old mid new (Err e) is adds = all_then es fs old mid new is adds
 
@@ -66,8 +69,7 @@ pub record Goes (t n : Told) : Type 0 where
 
 pub goes_by : (es : List Event) (t : Told) (new : Option Told) → new ≡ after_all es (Some t) → (n : Told) × (new ≡ Some n) × Goes t n
 goes_by [] t new is = (t, is, record { grew = extends_self t.log; honest = λ h. h })
-goes_by (e ∷ es) t new is =
-    let rest = goes_by es (did e t) new is in
+goes_by (e ∷ es) t new is = let rest = goes_by es (did e t) new is in
     (rest.0, rest.1, record { grew = extends_on rest.0.log (did e t).log t.log rest.2.grew (e ∷ [], refl, refl); honest = λ h. rest.2.honest (honest_did e t h) })
 
 pub goes_told : (t : Told) (new : Option Told) → (es : List Event) × (new ≡ after_all es (Some t)) → (n : Told) × (new ≡ Some n) × Goes t n
@@ -84,6 +86,7 @@ nothing_is_part [] old new is = is
 nothing_is_part (e ∷ es) old new is = inl is
 
 -- a call that fails adds a part of its events
-pub adds_failed : {T E : Type 0} → (es : List Event) (old new : Option Told) (result : Result T E) → IsErr result → AddsPart es old new → Adds es old new result
+pub adds_failed : {T E : Type 0}
+    → (es : List Event) (old new : Option Told) (result : Result T E) → IsErr result → AddsPart es old new → Adds es old new result
 adds_failed es old new (Ok x) failed part = absurd (false≢true failed)
 adds_failed es old new (Err e) failed part = part

@@ -25,29 +25,32 @@ record IsOwner (o : Option Whole) (h : Header) (own : Place) : Type 0 where
 
 an_owner : (o : Option Whole) (h : Header) (own : Place) → Some (h, own) ≡ owner_of o → IsOwner o h own
 an_owner None h own is = absurd (cc)
-an_owner (Some w) h own is =
-    let same : (h, own) ≡ (w.unit.header, w.own) = same_Some _ _ is in
+an_owner (Some w) h own is = let same : (h, own) ≡ (w.unit.header, w.own) = same_Some _ _ is in
     record { whole = w; is = refl; header = ap (λ (x : Header × Place). x.0) (sym same); place = ap (λ (x : Header × Place). x.1) (sym same) }
 
-pub decoded_none : (layout : Layout) (cluster : ℕ) (place : Place) (bytes : List ℕ) (class : Class) → None ≡ owner_of (whole_in layout cluster place.zone bytes) → class ≡ class_of_none bytes
+pub decoded_none : (layout : Layout) (cluster : ℕ) (place : Place) (bytes : List ℕ) (class : Class)
+    → None ≡ owner_of (whole_in layout cluster place.zone bytes) → class ≡ class_of_none bytes
     → Err class ≡ header_or_class (unit_in layout cluster place bytes) (class_of layout cluster place bytes)
-decoded_none layout cluster place bytes class none is = ap (λ (x : Class). Err x) is ∙ answer_is layout cluster place bytes None (no_owner _ none)
+decoded_none layout cluster place bytes class none is =
+    ap (λ (x : Class). Err x) is ∙ answer_is layout cluster place bytes None (no_owner _ none)
 
-pub decoded_here : (layout : Layout) (cluster : ℕ) (place : Place) (bytes : List ℕ) (h : Header) (own : Place) → Some (h, own) ≡ owner_of (whole_in layout cluster place.zone bytes) → own ≡ place
+pub decoded_here : (layout : Layout) (cluster : ℕ) (place : Place) (bytes : List ℕ) (h : Header) (own : Place)
+    → Some (h, own) ≡ owner_of (whole_in layout cluster place.zone bytes) → own ≡ place
     → Ok h ≡ header_or_class (unit_in layout cluster place bytes) (class_of layout cluster place bytes)
-decoded_here layout cluster place bytes h own some here =
-    let w = an_owner _ h own some in
+decoded_here layout cluster place bytes h own some here = let w = an_owner _ h own some in
     let same : same_place w.whole.own place ≡ true = ap (λ (p : Place). same_place p place) (w.place ∙ here) ∙ same_place-self place in
-    ap (λ (x : Header). Ok x) (sym w.header)
-    ∙ ap (λ (o : Option Message). header_or_class o (cond (is_blank bytes) Blank (class_of_whole place (Some w.whole)))) (sym (cond-true _ (Some w.whole.unit) None same))
+    ap (λ (x : Header). Ok x) (sym w.header) ∙ ap (λ (o : Option Message).
+    header_or_class o (cond (is_blank bytes) Blank (class_of_whole place (Some w.whole)))) (sym (cond-true _ (Some w.whole.unit) None same))
     ∙ answer_is layout cluster place bytes (Some w.whole) w.is
 
-pub decoded_there : (layout : Layout) (cluster : ℕ) (place : Place) (bytes : List ℕ) (h : Header) (own : Place) → Some (h, own) ≡ owner_of (whole_in layout cluster place.zone bytes) → own ≢ place
+pub decoded_there : (layout : Layout) (cluster : ℕ) (place : Place) (bytes : List ℕ) (h : Header) (own : Place)
+    → Some (h, own) ≡ owner_of (whole_in layout cluster place.zone bytes) → own ≢ place
     → Err (Elsewhere own) ≡ header_or_class (unit_in layout cluster place bytes) (class_of layout cluster place bytes)
-decoded_there layout cluster place bytes h own some other =
-    let w = an_owner _ h own some in
-    let differ : same_place w.whole.own place ≡ false = false_from_ne_true _ (λ same. other (sym w.place ∙ same_place-true w.whole.own place same)) in
+decoded_there layout cluster place bytes h own some other = let w = an_owner _ h own some in
+    let differ : same_place w.whole.own place ≡ false =
+    false_from_ne_true _ (λ same. other (sym w.place ∙ same_place-true w.whole.own place same)) in
     let there : cond (is_blank bytes) Blank (class_of_whole place (Some w.whole)) ≡ Elsewhere own =
-    cond-false _ Blank _ (whole_is_not_blank layout cluster place.zone bytes w.whole w.is) ∙ cond-false _ Stale _ differ ∙ ap (λ (p : Place). Elsewhere p) w.place in
+    cond-false _ Blank _ (whole_is_not_blank layout cluster place.zone bytes w.whole w.is)
+    ∙ cond-false _ Stale _ differ ∙ ap (λ (p : Place). Elsewhere p) w.place in
     (λ i. header_or_class (sym (cond-false _ (Some w.whole.unit) None differ) i) (sym there i))
     ∙ answer_is layout cluster place bytes (Some w.whole) w.is

@@ -60,7 +60,8 @@ pub of_first : (kind : Kind) (h : Header) → h.version ≡ 1 → h.boot ≡ 0 �
 of_first kind h version boot group group_last = inl (record { version = version; boot = boot; group = group; group_last = group_last })
 
 -- and one of version 2, whose maker gives it the boot and the group that its kind asks for
-pub of_second : (kind : Kind) (h : Header) → h.version ≡ 2 → HasBoot kind h.boot → HasGroup kind h.op h.group h.group_last → ObeysVersion kind h
+pub of_second : (kind : Kind) (h : Header)
+    → h.version ≡ 2 → HasBoot kind h.boot → HasGroup kind h.op h.group h.group_last → ObeysVersion kind h
 of_second kind h version boot group = inr (record { version = version; boot = boot; group = group })
 
 record FitsVersion (h : Header) : Type 0 where
@@ -83,15 +84,16 @@ group_fits op first last small is = (omega (arith, small, is.begins.1), omega (a
 none_fits : (first last : ℕ) → IsUngrouped first last → BothFit first last
 none_fits first last is = (omega (arith, is.none_first), omega (arith, is.none_last))
 
-version_fits : (kind : Kind) (g : Header) → (HasGroup kind g.op g.group g.group_last → BothFit g.group g.group_last) → ObeysVersion kind g → FitsVersion g
+version_fits : (kind : Kind) (g : Header)
+    → (HasGroup kind g.op g.group g.group_last → BothFit g.group g.group_last) → ObeysVersion kind g → FitsVersion g
 version_fits kind g small is = elim is [
   | inl first ↦ record { version = omega (arith, first.version); boot = omega (arith, first.boot); group = omega (arith, first.group); group_last = omega (arith, first.group_last) }
-  | inr second ↦
-      let both = small second.group in
+  | inr second ↦ let both = small second.group in
       record { version = omega (arith, second.version); boot = boot_fits kind g.boot second.boot; group = both.0; group_last = both.1 }
 ]
 
-fits_body : (g : Header) (body : List ℕ) → g.cluster < 2 ^ 128 → IsCheck g.parent → g.client < 2 ^ 128 → g.op < 2 ^ 64 → g.request < 2 ^ 64 → g.mark < 2 ^ 64 → g.checkpoint < 2 ^ 64
+fits_body : (g : Header) (body : List ℕ) → g.cluster < 2 ^ 128
+    → IsCheck g.parent → g.client < 2 ^ 128 → g.op < 2 ^ 64 → g.request < 2 ^ 64 → g.mark < 2 ^ 64 → g.checkpoint < 2 ^ 64
     → 256 + length body < 2 ^ 32 → g.slot < 2 ^ 32 → g.block_kind < 256 → FitsVersion g → FitsFields (for_body g body)
 fits_body g body cluster parent client op request mark checkpoint size slot block_kind version = assumption (so_check body)
 
@@ -114,68 +116,81 @@ module _ (cluster : ℕ) (named : (0 < cluster) × (cluster < 2 ^ 128)) (h : Hea
   obeys_kind _ is = assumption
 
   fits : (kind : Kind) → ObeysVersion kind h → Gives kind h body → FitsFields (for_body (made kind) body)
-  fits Reserved version is = fits_body (made Reserved) body named.1 no_check (omega arith) (omega arith) (omega arith) (omega arith) (omega arith) (omega (arith, ap length is.1)) is.0 (omega arith)
+  fits Reserved version is = fits_body (made Reserved) body named.1
+      no_check (omega arith) (omega arith) (omega arith) (omega arith) (omega arith) (omega (arith, ap length is.1)) is.0 (omega arith)
       (version_fits Reserved (made Reserved) (none_fits 0 0) (version_made Reserved version))
-  fits AsPrepare version is =
-      fits_body (made AsPrepare) body named.1 is.0.parent is.0.client.1 (omega (arith, is.0.op.1)) (omega (arith, is.0.request.1)) (omega (arith, is.0.mark, is.0.op.1)) (omega (arith, is.0.checkpoint.1)) is.1
-      is.0.slot (omega arith) (version_fits AsPrepare (made AsPrepare) (group_fits h.op h.group h.group_last is.0.op.1) (version_made AsPrepare version))
-  fits Reply version is =
-      fits_body (made Reply) body named.1 is.0.parent is.0.client.1 (omega (arith, is.0.op.1)) (omega (arith, is.0.request.1)) (omega (arith, is.0.mark.1)) (omega (arith, is.0.checkpoint.1)) is.1 is.0.slot
+  fits AsPrepare version is = fits_body (made AsPrepare) body named.1 is.0.parent is.0.client.1 (omega (arith, is.0.op.1))
+      (omega (arith, is.0.request.1)) (omega (arith, is.0.mark, is.0.op.1)) (omega (arith, is.0.checkpoint.1)) is.1 is.0.slot (omega arith)
+      (version_fits AsPrepare (made AsPrepare) (group_fits h.op h.group h.group_last is.0.op.1) (version_made AsPrepare version))
+  fits Reply version is = fits_body (made Reply) body named.1 is.0.parent is.0.client.1 (omega (arith, is.0.op.1))
+      (omega (arith, is.0.request.1)) (omega (arith, is.0.mark.1)) (omega (arith, is.0.checkpoint.1)) is.1 is.0.slot
       (omega arith) (version_fits Reply (made Reply) (none_fits 0 0) (version_made Reply version))
-  fits Block version is = fits_body (made Block) body named.1 no_check (omega arith) is.0.op.1 (omega arith) (omega arith) (omega arith) is.1 (omega arith) is.0.block_kind.1
+  fits Block version is = fits_body (made Block)
+      body named.1 no_check (omega arith) is.0.op.1 (omega arith) (omega arith) (omega arith) is.1 (omega arith) is.0.block_kind.1
       (version_fits Block (made Block) (none_fits 0 0) (version_made Block version))
-  fits Trailer version is = fits_body (made Trailer) body named.1 is.0.parent (omega arith) is.0.op.1 is.0.request.1 is.0.mark (omega (arith, is.0.checkpoint.1)) is.1 (omega arith) (omega arith)
+  fits Trailer version is = fits_body (made Trailer) body named.1
+      is.0.parent (omega arith) is.0.op.1 is.0.request.1 is.0.mark (omega (arith, is.0.checkpoint.1)) is.1 (omega arith) (omega arith)
       (version_fits Trailer (made Trailer) (none_fits 0 0) (version_made Trailer version))
 
-  whole : (g : Header) → FitsFields (for_body g body) → 0 < g.cluster → ObeysKind g.kind (for_body g body) → ObeysVersion g.kind g → ObeysRules (for_body g body)
-  whole g fits cluster kind version = record { fits = fits; cluster = cluster; size = omega arith; kind = kind; version = version_obeys g.kind g version }
+  whole : (g : Header) → FitsFields (for_body g body)
+      → 0 < g.cluster → ObeysKind g.kind (for_body g body) → ObeysVersion g.kind g → ObeysRules (for_body g body)
+  whole g fits cluster kind version =
+      record { fits = fits; cluster = cluster; size = omega arith; kind = kind; version = version_obeys g.kind g version }
 
   pub given_obeys : (kind : Kind) → ObeysVersion kind h → Gives kind h body → ObeysRules (for_body (of_kind kind cluster h) body)
-  given_obeys Reserved version is = whole (made Reserved) (fits Reserved version is) named.0 (obeys_kind Reserved is) (version_made Reserved version)
+  given_obeys Reserved version is =
+      whole (made Reserved) (fits Reserved version is) named.0 (obeys_kind Reserved is) (version_made Reserved version)
   given_obeys kind version is = whole (made kind) (fits kind version is) named.0 (obeys_kind kind is) (version_made kind version)
 
 -- ---- a unit has what its kind names, and nothing else
 
 -- a unit that isn't appended with others has no group, in either version
-ungrouped : (kind : Kind) (h : Header) → (HasGroup kind h.op h.group h.group_last → IsUngrouped h.group h.group_last) → ObeysVersion kind h → IsUngrouped h.group h.group_last
-ungrouped kind h alone is = elim is [ inl first ↦ record { none_first = first.group; none_last = first.group_last } | inr second ↦ alone second.group ]
+ungrouped : (kind : Kind) (h : Header)
+    → (HasGroup kind h.op h.group h.group_last → IsUngrouped h.group h.group_last) → ObeysVersion kind h → IsUngrouped h.group h.group_last
+ungrouped kind h alone is =
+    elim is [ inl first ↦ record { none_first = first.group; none_last = first.group_last } | inr second ↦ alone second.group ]
 
 -- its sizes are those of its body
-bodied : (kind : Kind) (h : Header) (body : List ℕ) → h.kind ≡ kind → IsBodyOf h body → record h { checksum = no_checksum } ≡ for_body (record h { checksum = no_checksum; kind = kind }) body
+bodied : (kind : Kind) (h : Header) (body : List ℕ) → h.kind ≡ kind
+    → IsBodyOf h body → record h { checksum = no_checksum } ≡ for_body (record h { checksum = no_checksum; kind = kind }) body
 bodied kind h body same has i = record h { checksum = no_checksum; checksum_body = has.checksum i; size = has.size i; kind = same i }
 
-ungroup : (kind : Kind) (h : Header) (body : List ℕ) → h.kind ≡ kind → IsBodyOf h body → (HasGroup kind h.op h.group h.group_last → IsUngrouped h.group h.group_last) → ObeysVersion kind h
+ungroup : (kind : Kind) (h : Header) (body : List ℕ)
+    → h.kind ≡ kind → IsBodyOf h body → (HasGroup kind h.op h.group h.group_last → IsUngrouped h.group h.group_last) → ObeysVersion kind h
     → record h { checksum = no_checksum } ≡ for_body (record h { checksum = no_checksum; kind = kind; group = 0; group_last = 0 }) body
-ungroup kind h body same has alone is i =
-    let none = ungrouped kind h alone is in
+ungroup kind h body same has alone is i = let none = ungrouped kind h alone is in
     record (bodied kind h body same has i) { group = none.none_first i; group_last = none.none_last i }
 
 -- nor a message's fields, where its kind has none
-bare : (kind : Kind) (h : Header) (body : List ℕ) → h.kind ≡ kind → IsBodyOf h body → (HasGroup kind h.op h.group h.group_last → IsUngrouped h.group h.group_last) → ObeysVersion kind h
+bare : (kind : Kind) (h : Header) (body : List ℕ)
+    → h.kind ≡ kind → IsBodyOf h body → (HasGroup kind h.op h.group h.group_last → IsUngrouped h.group h.group_last) → ObeysVersion kind h
     → h.parent ≡ no_checksum → h.client ≡ 0 → h.request ≡ 0 → h.mark ≡ 0 → h.checkpoint ≡ 0
     → record h { checksum = no_checksum } ≡ for_body (record h { checksum = no_checksum; kind = kind; parent = no_checksum; client = 0; request = 0; mark = 0; checkpoint = 0; group = 0; group_last = 0 }) body
-bare kind h body same has alone is parent client request mark checkpoint i =
-    record (ungroup kind h body same has alone is i) { parent = parent i; client = client i; request = request i; mark = mark i; checkpoint = checkpoint i }
+bare kind h body same has alone is parent client request mark checkpoint i = record (ungroup kind
+    h body same has alone is i) { parent = parent i; client = client i; request = request i; mark = mark i; checkpoint = checkpoint i }
 
 -- a reserved header no boot
 pub unbooted : (h : Header) → ObeysVersion Reserved h → h.boot ≡ 0
 unbooted h is = elim is [ inl first ↦ first.boot | inr second ↦ second.boot ]
 
-again : (kind : Kind) (h : Header) (body : List ℕ) → h.kind ≡ kind → ObeysKind kind h → ObeysVersion kind h → IsBodyOf h body → record h { checksum = no_checksum } ≡ for_body (of_kind kind h.cluster h) body
-again Reserved h body same is version has i =
-    record (bare Reserved h body same has (λ group. group) version is.parent is.client is.request is.mark is.checkpoint i) { op = is.op i; block_kind = is.block_kind i; boot = unbooted h version i }
+again : (kind : Kind) (h : Header) (body : List ℕ) → h.kind ≡ kind → ObeysKind kind h
+    → ObeysVersion kind h → IsBodyOf h body → record h { checksum = no_checksum } ≡ for_body (of_kind kind h.cluster h) body
+again Reserved h body same is version has i = record (bare Reserved h body same has (λ group. group) version
+    is.parent is.client is.request is.mark is.checkpoint i) { op = is.op i; block_kind = is.block_kind i; boot = unbooted h version i }
 again AsPrepare h body same is version has i = record (bodied AsPrepare h body same has i) { block_kind = is.block_kind i }
 again Reply h body same is version has i = record (ungroup Reply h body same has (λ group. group) version i) { block_kind = is.block_kind i }
-again Block h body same is version has i = record (bare Block h body same has (λ group. group) version is.parent is.client is.request is.mark is.checkpoint i) { slot = is.slot i }
-again Trailer h body same is version has i = record (ungroup Trailer h body same has (λ group. group) version i) { client = is.client i; slot = is.slot i; block_kind = is.block_kind i }
+again Block h body same is version has i =
+    record (bare Block h body same has (λ group. group) version is.parent is.client is.request is.mark is.checkpoint i) { slot = is.slot i }
+again Trailer h body same is version has i = record (ungroup Trailer h body same has (λ group.
+    group) version i) { client = is.client i; slot = is.slot i; block_kind = is.block_kind i }
 
 resealed : (h : Header) → IsSealed h → sealed (record h { checksum = no_checksum }) ≡ h
 unfolding spelling_rest tail_of
 resealed h is = λ i. record h { checksum = sym is.checksum i }
 
 -- a sealed header with its body is what is made of the fields that its kind names
-pub made_again : (kind : Kind) (h : Header) (body : List ℕ) → h.kind ≡ kind → IsSealed h → IsBodyOf h body → sealed (for_body (of_kind kind h.cluster h) body) ≡ h
-made_again kind h body same is has =
-    let kind_of = subst (λ (k : Kind). ObeysKind k h) same is.rules.kind in
+pub made_again : (kind : Kind) (h : Header) (body : List ℕ)
+    → h.kind ≡ kind → IsSealed h → IsBodyOf h body → sealed (for_body (of_kind kind h.cluster h) body) ≡ h
+made_again kind h body same is has = let kind_of = subst (λ (k : Kind). ObeysKind k h) same is.rules.kind in
     let version = subst (λ (k : Kind). ObeysVersion k h) same is.rules.version in
     ap sealed (sym (again kind h body same kind_of version has)) ∙ resealed h is

@@ -8,8 +8,7 @@ length-unit u is = omega (arith, length-append (spelling u.header) u.body, lengt
 
 pub length-sectors : (u : Message) → IsSealed u.header → length (sectors_of u) ≡ sectors_end (256 + length u.body)
 unfolding sectors_of
-length-sectors u is =
-    let n : ℕ = 256 + length u.body in
+length-sectors u is = let n : ℕ = 256 + length u.body in
     omega (arith, length-append (unit_bytes u) (replicate (sectors_end n - n) 0), length-unit u is, length-replicate {A = ℕ} (sectors_end n - n) 0)
 
 pub AreBytes-spelling : (h : Header) → IsSealed h → AreBytes (spelling h)
@@ -17,4 +16,5 @@ AreBytes-spelling h is = (spelling_size h is).each
 
 pub AreBytes-sectors : (u : Message) → IsSealed u.header → AreBytes u.body → AreBytes (sectors_of u)
 unfolding sectors_of
-AreBytes-sectors u is are = AreBytes-append (unit_bytes u) _ (AreBytes-append (spelling u.header) u.body (AreBytes-spelling u.header is) are) (AreBytes-zeros _)
+AreBytes-sectors u is are =
+    AreBytes-append (unit_bytes u) _ (AreBytes-append (spelling u.header) u.body (AreBytes-spelling u.header is) are) (AreBytes-zeros _)

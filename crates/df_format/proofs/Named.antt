@@ -13,27 +13,29 @@ none_from checks is k d inside =
     (bytes_eq-Decides (get_or checks k d) no_checksum).0 (not-false _ fails)
 
 from_none : (checks : List (List ℕ)) → AreNone checks → first_named checks ≡ None
-from_none checks none =
-    let least : length checks ≤ length checks = omega arith in
-    let fails = λ (k : ℕ) (inside : k < length checks). not_from_true (is_zero_check (get_or checks k [])) ((bytes_eq-Decides (get_or checks k []) no_checksum).1 (none k [] inside)) in
-    let all : position_or_len named checks ≡ length checks = position_or_len_is named checks (length checks) [] least fails (λ more. absurd (omega arith)) in
-    cond-false (nat_lt (position_or_len named checks) (length checks)) (Some (position_or_len named checks)) None (le-ltb (position_or_len named checks) (length checks) (omega (arith, all)))
+from_none checks none = let least : length checks ≤ length checks = omega arith in let fails = λ (k : ℕ) (inside : k < length checks).
+    not_from_true (is_zero_check (get_or checks k [])) ((bytes_eq-Decides (get_or checks k []) no_checksum).1 (none k [] inside)) in
+    let all : position_or_len named checks ≡ length checks =
+    position_or_len_is named checks (length checks) [] least fails (λ more. absurd (omega arith)) in
+    cond-false (nat_lt (position_or_len named checks) (length checks))
+    (Some (position_or_len named checks)) None (le-ltb (position_or_len named checks) (length checks) (omega (arith, all)))
 
 pub no_number : (o : Option ℕ) → Decides (is_none o) (o ≡ None)
 no_number None = (λ is. refl, λ is. refl)
 no_number (Some x) = (λ is. absurd (cc), λ is. absurd (cc))
 
 none_named : (checks : List (List ℕ)) → Decides (is_none (first_named checks)) (AreNone checks)
-none_named checks = (λ is. none_from checks ((no_number (first_named checks)).0 is), λ none. (no_number (first_named checks)).1 (from_none checks none))
+none_named checks =
+    (λ is. none_from checks ((no_number (first_named checks)).0 is), λ none. (no_number (first_named checks)).1 (from_none checks none))
 
 -- no place without a session has a checksum
 pub none_spare : (f : SuperFields) → Decides (is_none (first_spare f)) (AreNone (drop f.clients f.reply_checksums))
-none_spare f =
-    let behind : List (List ℕ) = drop f.clients f.reply_checksums in (
-      λ is. none_from behind (no_place (first_named behind) f.clients ((no_number (first_spare f)).0 is)),
-      λ none. (no_number (first_spare f)).1 (ap (λ (o : Option ℕ). option_map (λ i. f.clients + i) o) (from_none behind none)),
-    )
+none_spare f = let behind : List (List ℕ) = drop f.clients f.reply_checksums in (
+  λ is. none_from behind (no_place (first_named behind) f.clients ((no_number (first_spare f)).0 is)),
+  λ none. (no_number (first_spare f)).1 (ap (λ (o : Option ℕ). option_map (λ i. f.clients + i) o) (from_none behind none)),
+)
 
 -- neither the head's prepare nor a reply is named
 pub nameless : (f : SuperFields) → Decides (names_none f) (NamesNone f)
-nameless f = Decides-like (names_none f) (λ t. record { head = t.0; replies = t.1 }) (λ is. (is.head, is.replies)) (Decides-and _ _ (bytes_eq-Decides f.head_checksum no_checksum) (none_named f.reply_checksums))
+nameless f = Decides-like (names_none f) (λ t. record { head = t.0; replies = t.1 }) (λ is.
+    (is.head, is.replies)) (Decides-and _ _ (bytes_eq-Decides f.head_checksum no_checksum) (none_named f.reply_checksums))

@@ -21,15 +21,14 @@ also one two = Decides-and _ _ one two
 
 prepare : (h : Header) → Decides (is_prepare h) (ObeysPrepare h)
 unfolding is_prepare
-prepare h =
-    told _ (also (also (also (also (also (also (same_where h.op 1 h.parent no_checksum) (Decides-ltb 0 h.client)) (counter h.op)) (counter h.request)) (Decides-ltb h.mark h.op)) (counter h.checkpoint)) (Decides-eqb h.block_kind 0))
+prepare h = told _ (also (also (also (also (also (also (same_where h.op 1 h.parent no_checksum) (Decides-ltb 0 h.client)) (counter h.op))
+    (counter h.request)) (Decides-ltb h.mark h.op)) (counter h.checkpoint)) (Decides-eqb h.block_kind 0))
     (λ t. assumption) (λ is. assumption)
 
 reply : (h : Header) → Decides (is_reply h) (ObeysReply h)
 unfolding is_reply
-reply h =
-    told _ (also (also (also (also (also (also (Decides-ltb 0 h.client) (counter h.op)) (counter h.request)) (at_most h.op h.mark)) (at_most h.mark (2 ^ 62))) (counter h.checkpoint)) (Decides-eqb h.block_kind 0))
-    (λ t. assumption) (λ is. assumption)
+reply h = told _ (also (also (also (also (also (also (Decides-ltb 0 h.client) (counter h.op)) (counter h.request)) (at_most h.op h.mark))
+    (at_most h.mark (2 ^ 62))) (counter h.checkpoint)) (Decides-eqb h.block_kind 0)) (λ t. assumption) (λ is. assumption)
 
 -- a header that names neither a parent nor a client
 record IsBare (h : Header) : Type 0 where
@@ -41,20 +40,17 @@ record IsBare (h : Header) : Type 0 where
 
 bare : (h : Header) → Decides (is_bare h) (IsBare h)
 unfolding is_bare
-bare h =
-    told _ (also (also (also (also (bytes_eq-Decides h.parent no_checksum) (Decides-eqb h.client 0)) (Decides-eqb h.request 0)) (Decides-eqb h.mark 0)) (Decides-eqb h.checkpoint 0))
-    (λ t. assumption) (λ is. assumption)
+bare h = told _ (also (also (also (also (bytes_eq-Decides h.parent no_checksum) (Decides-eqb h.client 0)) (Decides-eqb h.request 0))
+    (Decides-eqb h.mark 0)) (Decides-eqb h.checkpoint 0)) (λ t. assumption) (λ is. assumption)
 
 reserved : (h : Header) → Decides (is_reserved h) (ObeysReserved h)
 unfolding is_reserved
-reserved h =
-    told _ (also (also (also (also (bare h) (bytes_eq-Decides h.checksum_body (check_of []))) (Decides-eqb h.op 0)) (Decides-eqb h.size 256)) (Decides-eqb h.block_kind 0))
-    (λ t. assumption) (λ is. assumption)
+reserved h = told _ (also (also (also (also (bare h) (bytes_eq-Decides h.checksum_body (check_of []))) (Decides-eqb h.op 0))
+    (Decides-eqb h.size 256)) (Decides-eqb h.block_kind 0)) (λ t. assumption) (λ is. assumption)
 
 block : (h : Header) → Decides (is_block h) (ObeysBlock h)
 unfolding is_block
-block h =
-    told _ (also (also (also (bare h) (Decides-ltb 0 h.op)) (Decides-eqb h.slot 0)) (Decides-ltb 0 h.block_kind))
+block h = told _ (also (also (also (bare h) (Decides-ltb 0 h.op)) (Decides-eqb h.slot 0)) (Decides-ltb 0 h.block_kind))
     (λ t. assumption) (λ is. assumption)
 
 -- the block before a trailer block, by its index
@@ -62,12 +58,12 @@ record IsLinked (mark request : ℕ) (parent : List ℕ) : Type 0 where
   first : mark ≡ 0 → parent ≡ no_checksum
   before : (request ≡ 0) ↔ (mark ≡ 0)
 
-linked_by : (mark request : ℕ) (parent : List ℕ) (b : Bool) → (mark == 0) ≡ b → Decides (cond b ((request == 0) && bytes_eq parent no_checksum) (nat_lt 0 request)) (IsLinked mark request parent)
-linked_by mark request parent true zero =
-    let none = eqb-true mark 0 zero in
-    told _ (also (Decides-eqb request 0) (bytes_eq-Decides parent no_checksum)) (λ t. record { first = λ _. t.1; before = (λ _. none, λ _. t.0) }) (λ is. (is.before.1 none, is.first none))
-linked_by mark request parent false some =
-    let other : mark ≢ 0 = λ none. both_ways _ some (eq-eqb mark 0 none) in
+linked_by : (mark request : ℕ) (parent : List ℕ) (b : Bool)
+    → (mark == 0) ≡ b → Decides (cond b ((request == 0) && bytes_eq parent no_checksum) (nat_lt 0 request)) (IsLinked mark request parent)
+linked_by mark request parent true zero = let none = eqb-true mark 0 zero in
+    told _ (also (Decides-eqb request 0) (bytes_eq-Decides parent no_checksum)) (λ t.
+    record { first = λ _. t.1; before = (λ _. none, λ _. t.0) }) (λ is. (is.before.1 none, is.first none))
+linked_by mark request parent false some = let other : mark ≢ 0 = λ none. both_ways _ some (eq-eqb mark 0 none) in
     told _ (Decides-ltb 0 request)
     (λ before. record { first = λ none. absurd (other none); before = (λ none. absurd (omega arith), λ none. absurd (other none)) })
     (λ is. let before : request ≢ 0 = λ none. other (is.before.0 none) in omega arith)
@@ -77,8 +73,8 @@ linked h = linked_by h.mark h.request h.parent (h.mark == 0) refl
 
 trailer : (h : Header) → Decides (is_trailer h) (ObeysTrailer h)
 unfolding is_trailer
-trailer h =
-    told _ (also (also (also (also (also (also (linked h) (Decides-eqb h.client 0)) (Decides-ltb 0 h.op)) (at_most 2 h.checkpoint)) (at_most h.checkpoint (2 ^ 62))) (Decides-eqb h.slot 0)) (Decides-eqb h.block_kind 0))
+trailer h = told _ (also (also (also (also (also (also (linked h) (Decides-eqb h.client 0)) (Decides-ltb 0 h.op)) (at_most 2 h.checkpoint))
+    (at_most h.checkpoint (2 ^ 62))) (Decides-eqb h.slot 0)) (Decides-eqb h.block_kind 0))
     (λ t. let before = t.0.0.0.0.0.0.before in assumption) (λ is. assumption)
 
 of_kind : (kind : Kind) (h : Header) → Decides (is_of_kind kind h) (ObeysKind kind h)
@@ -96,8 +92,8 @@ ungrouped h = told _ (also (Decides-eqb h.group 0) (Decides-eqb h.group_last 0))
 
 grouped : (h : Header) → Decides (is_grouped h) (IsGroup h.op h.group h.group_last)
 unfolding is_grouped
-grouped h =
-    told _ (also (also (also (Decides-ltb 0 h.group) (at_most h.group h.op)) (at_most h.op h.group_last)) (at_most h.group_last (h.group + 7))) (λ t. assumption) (λ is. assumption)
+grouped h = told _ (also (also (also (Decides-ltb 0 h.group) (at_most h.group h.op)) (at_most h.op h.group_last))
+    (at_most h.group_last (h.group + 7))) (λ t. assumption) (λ is. assumption)
 
 first : (h : Header) → Decides (is_first h) (ObeysFirst h)
 unfolding is_first
@@ -116,8 +112,8 @@ unfolding is_second
 second kind h = told _ (also (also (Decides-eqb h.version 2) (boot kind h)) (group kind h)) (λ t. assumption) (λ is. assumption)
 
 numbers : (h : Header) → Decides (has_numbers h) (AreInRange h)
-numbers h =
-    told _ (also (also (also (Decides-ltb 0 h.cluster) (at_most 256 h.size)) (of_kind h.kind h)) (Decides-or _ _ (first h) (second h.kind h))) (λ t. assumption) (λ is. assumption)
+numbers h = told _ (also (also (also (Decides-ltb 0 h.cluster) (at_most 256 h.size)) (of_kind h.kind h))
+    (Decides-or _ _ (first h) (second h.kind h))) (λ t. assumption) (λ is. assumption)
 
 pub in_range : (h : Header) → has_numbers h ≡ true → AreInRange h
 in_range h is = (numbers h).0 is

@@ -28,9 +28,7 @@ tail_fit h fits = assumption (so_many_zeros 108)
 
 rest_size : (h : Header) → FitsFields h → AreSo 240 (spelling_rest h)
 unfolding spelling_rest tail_of
-rest_size h fits =
-    let all = fields_fit h fits in
-    so_text fields h (assumption) (so_text tail h (assumption (so_many_zeros 108)) so_none)
+rest_size h fits = let all = fields_fit h fits in so_text fields h (assumption) (so_text tail h (assumption (so_many_zeros 108)) so_none)
 
 checksum_size : (h : Header) → IsSealed h → AreSo 16 h.checksum
 checksum_size h is = subst (λ (l : List ℕ). AreSo 16 l) (sym is.checksum) (so_check (spelling_rest h))
@@ -44,7 +42,8 @@ length-spelling h is = (spelling_size h is).size
 -- ---- a header is read from its spelling
 
 -- fields that are read are all that is read
-same_fields : (bytes : List ℕ) (h : Header) → take 16 bytes ≡ h.checksum → AreRead fields 16 bytes h → AreRead tail 122 bytes h → fields_of h.kind bytes ≡ h
+same_fields : (bytes : List ℕ) (h : Header)
+    → take 16 bytes ≡ h.checksum → AreRead fields 16 bytes h → AreRead tail 122 bytes h → fields_of h.kind bytes ≡ h
 unfolding fields_of
 same_fields bytes h checksum fields_read tail_read = let all : fields_of h.kind bytes ≡ record h { kind = h.kind } = cc in all
 
@@ -70,8 +69,8 @@ module _ (h : Header) (sealed : IsSealed h) where
 
   fixed_ok : is_spelled bytes ≡ true
   unfolding is_spelled
-  fixed_ok =
-      let rest : take 240 (drop 16 bytes) ≡ spelling_rest h = ap (λ (l : List ℕ). take 240 l) e16 ∙ take_all 240 (spelling_rest h) (omega (arith, (rest_size h fits).size)) in
+  fixed_ok = let rest : take 240 (drop 16 bytes) ≡ spelling_rest h =
+      ap (λ (l : List ℕ). take 240 l) e16 ∙ take_all 240 (spelling_rest h) (omega (arith, (rest_size h fits).size)) in
       and_from _ _ (same_bytes _ _ (f_checksum ∙ sealed.checksum ∙ ap check_of (sym rest))) (same_bytes _ _ read.second.1.1.1.1.0)
 
   header_ok : (is_spelled bytes && has_numbers (fields_of h.kind bytes)) ≡ true
@@ -79,8 +78,7 @@ module _ (h : Header) (sealed : IsSealed h) where
 
   pub reads : header_in bytes ≡ Some h
   unfolding header_in
-  reads =
-      ap (λ (o : Option Kind). header_of_kind bytes o) (ap kind_of read.first.1.1.1.1.1.1.1.1.1.1.0 ∙ kind_of-code h.kind)
+  reads = ap (λ (o : Option Kind). header_of_kind bytes o) (ap kind_of read.first.1.1.1.1.1.1.1.1.1.1.0 ∙ kind_of-code h.kind)
       ∙ cond-true (is_spelled bytes && has_numbers (fields_of h.kind bytes)) (Some (fields_of h.kind bytes)) None header_ok
       ∙ ap Some is_fields
 
@@ -98,15 +96,12 @@ pub record IsRead (bytes : List ℕ) (h : Header) : Type 0 where
   pub fields : fields_of h.kind bytes ≡ h
   pub ranges : AreInRange h
 
-read_of_kind : (bytes : List ℕ) (h : Header) (o : Option Kind) → header_of_kind bytes o ≡ Some h → kind_of (slice_index bytes 120) ≡ o → IsRead bytes h
+read_of_kind : (bytes : List ℕ) (h : Header) (o : Option Kind)
+    → header_of_kind bytes o ≡ Some h → kind_of (slice_index bytes 120) ≡ o → IsRead bytes h
 unfolding is_spelled
 read_of_kind bytes h None is from = absurd (cc)
-read_of_kind bytes h (Some kind) is from =
-    let parts = cond_some _ _ h is in
-    let tests = and_parts _ _ parts.0 in
-    let fixed = and_parts _ _ tests.0 in
-    let same : kind ≡ h.kind = kind_of-fields kind bytes h parts.1 in
-    record {
+read_of_kind bytes h (Some kind) is from = let parts = cond_some _ _ h is in let tests = and_parts _ _ parts.0 in
+    let fixed = and_parts _ _ tests.0 in let same : kind ≡ h.kind = kind_of-fields kind bytes h parts.1 in record {
       sum = (bytes_eq-Decides _ _).0 fixed.0;
       zeros = (bytes_eq-Decides _ _).0 fixed.1;
       code = code_of-kind _ _ from ∙ ap code_of same;
@@ -122,7 +117,8 @@ read_as bytes h is = read_of_kind bytes h (kind_of (slice_index bytes 120)) is r
 all_fit : (h : Header) → Fit fields h → Fit tail h → FitsFields h
 all_fit h fields_fits tail_fits = assumption
 
-module _ (bytes : List ℕ) (size : length bytes ≡ 256) (are : AreBytes bytes) (kind : Kind) (code : slice_index bytes 120 ≡ code_of kind) (zeros : take 108 (drop 148 bytes) ≡ replicate 108 0) where
+module _ (bytes : List ℕ) (size : length bytes ≡ 256) (are : AreBytes bytes)
+    (kind : Kind) (code : slice_index bytes 120 ≡ code_of kind) (zeros : take 108 (drop 148 bytes) ≡ replicate 108 0) where
   abbrev found : Header
   found = fields_of kind bytes
 
@@ -143,17 +139,15 @@ module _ (bytes : List ℕ) (size : length bytes ≡ 256) (are : AreBytes bytes)
   is_rest = spelled_back fields 16 bytes (tail_of found) found are (omega arith) fields_found is_tail
 
   all_spelled : take 16 bytes ≡ check_of (take 240 (drop 16 bytes)) → AreInRange found → IsSealed found × (bytes ≡ spelling found)
-  all_spelled sum range =
-      let front : take 16 bytes ≡ found.checksum = unfold fields_of in refl in
-      let fits = all_fit found (fit_back fields 16 bytes found are (omega arith) fields_found) (fit_back tail 122 bytes found are (omega arith) tail_found) in
+  all_spelled sum range = let front : take 16 bytes ≡ found.checksum = unfold fields_of in refl in let fits = all_fit
+      found (fit_back fields 16 bytes found are (omega arith) fields_found) (fit_back tail 122 bytes found are (omega arith) tail_found) in
       let checksum = sym front ∙ sum ∙ ap check_of (take_all 240 (drop 16 bytes) (omega (arith, length-drop 16 bytes)) ∙ is_rest) in (
         assumption (fits, checksum),
         piece 0 16 bytes found.checksum _ (sym front) is_rest,
       )
 
 pub was_spelled : (bytes : List ℕ) (h : Header) → length bytes ≡ 256 → AreBytes bytes → IsRead bytes h → IsSealed h × (bytes ≡ spelling h)
-was_spelled bytes h size are is =
-    let here = all_spelled bytes size are h.kind is.code is.zeros is.sum (rw (sym is.fields) at is.ranges) in
+was_spelled bytes h size are is = let here = all_spelled bytes size are h.kind is.code is.zeros is.sum (rw (sym is.fields) at is.ranges) in
     subst (λ (x : Header). IsSealed x × (bytes ≡ spelling x)) is.fields here
 
 -- 256 bytes are read as a header exactly where they are its spelling

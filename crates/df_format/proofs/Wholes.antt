@@ -16,19 +16,15 @@ pub record IsFound (layout : Layout) (cluster : ℕ) (zone : Zone) (bytes : List
 with_parts : (zone : Zone) (bytes : List ℕ) (h : Header) (o : Option Place) (w : Whole) → with_own zone bytes h o ≡ Some w
     → (o ≡ Some w.own) × (h ≡ w.unit.header) × (body_in zone h.size bytes ≡ w.unit.body)
 with_parts zone bytes h None w is = absurd (cc)
-with_parts zone bytes h (Some own) w is =
-    let same = same_Some _ _ is in
+with_parts zone bytes h (Some own) w is = let same = same_Some _ _ is in
     (ap (λ (x : Whole). Some x.own) same, ap (λ (x : Whole). x.unit.header) same, ap (λ (x : Whole). x.unit.body) same)
 
-unit_parts : (layout : Layout) (cluster : ℕ) (zone : Zone) (bytes : List ℕ) (o : Option Header) (w : Whole) → if_unit layout cluster zone bytes o ≡ Some w → o ≡ header_in (take 256 bytes)
-    → IsFound layout cluster zone bytes w.unit w.own
+unit_parts : (layout : Layout) (cluster : ℕ) (zone : Zone) (bytes : List ℕ) (o : Option Header) (w : Whole)
+    → if_unit layout cluster zone bytes o ≡ Some w → o ≡ header_in (take 256 bytes) → IsFound layout cluster zone bytes w.unit w.own
 unit_parts layout cluster zone bytes None w is from = absurd (cc)
-unit_parts layout cluster zone bytes (Some h) w is from =
-    let parts = cond_there _ _ w is in
-    let own = with_parts zone bytes h (own_place layout zone h) w parts.1 in
-    let tests = and_parts _ _ parts.0 in
-    let fixed = and_parts _ _ tests.0 in
-    record {
+unit_parts layout cluster zone bytes (Some h) w is from = let parts = cond_there _ _ w is in
+    let own = with_parts zone bytes h (own_place layout zone h) w parts.1 in let tests = and_parts _ _ parts.0 in
+    let fixed = and_parts _ _ tests.0 in record {
       header = sym from ∙ ap Some own.1;
       owner = ap (λ (x : Header). x.cluster) (sym own.1) ∙ eqb-true _ _ fixed.0;
       fits = rw own.1 at (leb-true _ _ fixed.1);
@@ -37,33 +33,35 @@ unit_parts layout cluster zone bytes (Some h) w is from =
       belongs = ap (λ (x : Header). own_place layout zone x) (sym own.1) ∙ own.0;
     }
 
-pub whole_found : (layout : Layout) (cluster : ℕ) (zone : Zone) (bytes : List ℕ) (w : Whole) → whole_in layout cluster zone bytes ≡ Some w → IsFound layout cluster zone bytes w.unit w.own
+pub whole_found : (layout : Layout) (cluster : ℕ) (zone : Zone) (bytes : List ℕ) (w : Whole)
+    → whole_in layout cluster zone bytes ≡ Some w → IsFound layout cluster zone bytes w.unit w.own
 unfolding whole_in
 whole_found layout cluster zone bytes w is = unit_parts layout cluster zone bytes (header_in (take 256 bytes)) w is refl
 
-pub found_whole : (layout : Layout) (cluster : ℕ) (zone : Zone) (bytes : List ℕ) (u : Message) (own : Place) → IsFound layout cluster zone bytes u own
-    → whole_in layout cluster zone bytes ≡ Some (record { unit = u; own = own })
+pub found_whole : (layout : Layout) (cluster : ℕ) (zone : Zone) (bytes : List ℕ) (u : Message) (own : Place)
+    → IsFound layout cluster zone bytes u own → whole_in layout cluster zone bytes ≡ Some (record { unit = u; own = own })
 unfolding whole_in
 found_whole layout cluster zone bytes u own is =
     let fixed = and_from _ _ (eq-eqb u.header.cluster cluster is.owner) (le-leb u.header.size (greatest_size layout zone) is.fits) in
-    ap (λ (o : Option Header). if_unit layout cluster zone bytes o) is.header
-    ∙ cond-true (is_unit layout cluster zone bytes u.header) (with_own zone bytes u.header (own_place layout zone u.header)) None (and_from _ _ fixed is.tested)
+    ap (λ (o : Option Header). if_unit layout cluster zone bytes o) is.header ∙ cond-true (is_unit layout cluster zone bytes u.header)
+    (with_own zone bytes u.header (own_place layout zone u.header)) None (and_from _ _ fixed is.tested)
     ∙ ap (λ (o : Option Place). with_own zone bytes u.header o) is.belongs
     ∙ (λ i. Some (record { unit = record { header = u.header; body = is.body i }; own = own }))
 
 own_parts : (place : Place) (o : Option Whole) (u : Message) → if_own place o ≡ Some u → o ≡ Some (record { unit = u; own = place })
 own_parts place None u is = absurd (cc)
-own_parts place (Some w) u is =
-    let parts = cond_some _ _ u is in
-    let here = same_place-true w.own place parts.0 in
+own_parts place (Some w) u is = let parts = cond_some _ _ u is in let here = same_place-true w.own place parts.0 in
     λ i. Some (record { unit = parts.1 i; own = here i })
 
 -- how the unit that a place shows was found
-pub unit_found : (layout : Layout) (cluster : ℕ) (place : Place) (bytes : List ℕ) (u : Message) → unit_in layout cluster place bytes ≡ Some u → IsFound layout cluster place.zone bytes u place
+pub unit_found : (layout : Layout) (cluster : ℕ) (place : Place) (bytes : List ℕ) (u : Message)
+    → unit_in layout cluster place bytes ≡ Some u → IsFound layout cluster place.zone bytes u place
 unfolding unit_in
-unit_found layout cluster place bytes u is = whole_found layout cluster place.zone bytes (record { unit = u; own = place }) (own_parts place _ u is)
+unit_found layout cluster place bytes u is =
+    whole_found layout cluster place.zone bytes (record { unit = u; own = place }) (own_parts place _ u is)
 
-pub found_unit : (layout : Layout) (cluster : ℕ) (place : Place) (bytes : List ℕ) (u : Message) → IsFound layout cluster place.zone bytes u place → unit_in layout cluster place bytes ≡ Some u
+pub found_unit : (layout : Layout) (cluster : ℕ) (place : Place) (bytes : List ℕ) (u : Message)
+    → IsFound layout cluster place.zone bytes u place → unit_in layout cluster place bytes ≡ Some u
 unfolding unit_in
 found_unit layout cluster place bytes u is =
     ap (λ (o : Option Whole). if_own place o) (found_whole layout cluster place.zone bytes u place is)
@@ -74,10 +72,12 @@ body_behind WalHeaders size bytes other = absurd (other refl)
 body_behind _ size bytes other = refl
 
 pub body_follows : BodyFollows
-body_follows layout cluster place bytes u other valid = sym (unit_found layout cluster place bytes u valid).body ∙ body_behind place.zone u.header.size bytes other
+body_follows layout cluster place bytes u other valid =
+    sym (unit_found layout cluster place bytes u valid).body ∙ body_behind place.zone u.header.size bytes other
 
 pub ring_has_no_body : RingHasNoBody
-ring_has_no_body layout cluster place bytes u ring valid = sym (unit_found layout cluster place bytes u valid).body ∙ ap (λ (z : Zone). body_in z u.header.size bytes) ring
+ring_has_no_body layout cluster place bytes u ring valid =
+    sym (unit_found layout cluster place bytes u valid).body ∙ ap (λ (z : Zone). body_in z u.header.size bytes) ring
 
 -- what stands after the header is the body, and a rest
 body_rest : (zone : Zone) (size : ℕ) (bytes : List ℕ) → (rest : List ℕ) × (drop 256 bytes ≡ body_in zone size bytes ++ rest)
@@ -88,9 +88,9 @@ body_rest _ size bytes = (drop (size - 256) (drop 256 bytes), sym (take-append-d
 abbrev IsTested : Header → List ℕ → Type 0
 IsTested h bytes = bytes_eq h.checksum_body (check_of (take (h.size - 256) (drop 256 bytes))) ≡ true
 
-body_is : (h : Header) (bytes : List ℕ) → AreBytes bytes → 256 ≤ h.size → h.size ≤ length bytes → IsTested h bytes → IsBodyOf h (take (h.size - 256) (drop 256 bytes))
-body_is h bytes are least fits tested =
-    let long = length-take-le (h.size - 256) (drop 256 bytes) (omega (arith, length-drop 256 bytes)) in
+body_is : (h : Header) (bytes : List ℕ)
+    → AreBytes bytes → 256 ≤ h.size → h.size ≤ length bytes → IsTested h bytes → IsBodyOf h (take (h.size - 256) (drop 256 bytes))
+body_is h bytes are least fits tested = let long = length-take-le (h.size - 256) (drop 256 bytes) (omega (arith, length-drop 256 bytes)) in
     record {
       size = omega (arith, long);
       checksum = (bytes_eq-Decides _ _).0 tested;
@@ -103,10 +103,12 @@ unfolding place_sectors
 fits_slot layout WalHeaders other = absurd (other refl)
 fits_slot layout _ other = omega (arith, layout.message_size_within.2, layout.block_size_within.2)
 
-has_its_body : (layout : Layout) (zone : Zone) (h : Header) (bytes : List ℕ) → length bytes ≡ place_size layout zone → AreBytes bytes → 256 ≤ h.size → h.size ≤ greatest_size layout zone
+has_its_body : (layout : Layout) (zone : Zone) (h : Header) (bytes : List ℕ)
+    → length bytes ≡ place_size layout zone → AreBytes bytes → 256 ≤ h.size → h.size ≤ greatest_size layout zone
     → has_body zone h bytes ≡ true → HasBody zone h (body_in zone h.size bytes)
 has_its_body layout WalHeaders h bytes size are least fits tested = refl
-has_its_body layout zone h bytes size are least fits tested = body_is h bytes are least (omega (arith, fits_slot layout zone (λ same. cc))) tested
+has_its_body layout zone h bytes size are least fits tested =
+    body_is h bytes are least (omega (arith, fits_slot layout zone (λ same. cc))) tested
 
 -- elsewhere than in the header ring a place is a whole slot
 pub place_is_slot : (layout : Layout) (zone : Zone) → zone ≢ WalHeaders → place_size layout zone ≡ 4096 * place_sectors layout zone
@@ -119,42 +121,37 @@ unfolding place_sectors
 least_size layout Superblock = omega arith
 least_size layout _ = omega (arith, layout.message_size_within.0, layout.block_size_within.0)
 
-module _ (layout : Layout) (cluster : ℕ) (place : Place) (bytes : List ℕ) (u : Message) (size : length bytes ≡ place_size layout place.zone) (are : AreBytes bytes) (is : IsFound layout cluster place.zone bytes u place) where
+module _ (layout : Layout) (cluster : ℕ) (place : Place) (bytes : List ℕ) (u : Message)
+    (size : length bytes ≡ place_size layout place.zone) (are : AreBytes bytes) (is : IsFound layout cluster place.zone bytes u place) where
   was : IsSealed u.header × (take 256 bytes ≡ spelling u.header)
-  was =
-      let least = length-take-le 256 bytes (omega (arith, size, least_size layout place.zone)) in
+  was = let least = length-take-le 256 bytes (omega (arith, size, least_size layout place.zone)) in
       was_spelled (take 256 bytes) u.header least (AreBytes-take 256 bytes are) (read_as _ _ is.header)
 
   begins : BeginsWithUnit layout cluster place bytes u
-  begins =
-      let rest = body_rest place.zone u.header.size bytes in
-      let sealed : IsSealed u.header = was.0 in
-      let body : HasBody place.zone u.header u.body = subst (HasBody place.zone u.header) is.body (has_its_body layout place.zone u.header bytes size are was.0.rules.size is.fits is.tested) in
-      record {
+  begins = let rest = body_rest place.zone u.header.size bytes in let sealed : IsSealed u.header = was.0 in
+      let body : HasBody place.zone u.header u.body = subst (HasBody place.zone u.header)
+      is.body (has_its_body layout place.zone u.header bytes size are was.0.rules.size is.fits is.tested) in record {
         is = assumption;
         rest = rest.0;
-        spelled =
-            sym (take-append-drop 256 bytes)
-            ∙ (λ i. was.1 i ++ rest.1 i)
-            ∙ ap (λ (l : List ℕ). spelling u.header ++ (l ++ rest.0)) is.body
-            ∙ sym (append_assoc (spelling u.header) u.body rest.0);
+        spelled = sym (take-append-drop 256 bytes) ∙ (λ i. was.1 i ++ rest.1 i)
+            ∙ ap (λ (l : List ℕ). spelling u.header ++ (l ++ rest.0)) is.body ∙ sym (append_assoc (spelling u.header) u.body rest.0);
       }
 
-body_back : (h : Header) (body rest bytes : List ℕ) → drop 256 bytes ≡ body ++ rest → IsBodyOf h body → (IsTested h bytes) × (take (h.size - 256) (drop 256 bytes) ≡ body)
-body_back h body rest bytes behind is =
-    let count : h.size - 256 ≡ length body = omega (arith, is.size) in
+body_back : (h : Header) (body rest bytes : List ℕ)
+    → drop 256 bytes ≡ body ++ rest → IsBodyOf h body → (IsTested h bytes) × (take (h.size - 256) (drop 256 bytes) ≡ body)
+body_back h body rest bytes behind is = let count : h.size - 256 ≡ length body = omega (arith, is.size) in
     let same : take (h.size - 256) (drop 256 bytes) ≡ body = (λ i. take (count i) (behind i)) ∙ take_at body rest (length body) refl in
     ((bytes_eq-Decides _ _).1 (is.checksum ∙ ap check_of (sym same)), same)
 
-body_found : (zone : Zone) (h : Header) (body rest bytes : List ℕ) → drop 256 bytes ≡ body ++ rest → HasBody zone h body → (has_body zone h bytes ≡ true) × (body_in zone h.size bytes ≡ body)
+body_found : (zone : Zone) (h : Header) (body rest bytes : List ℕ)
+    → drop 256 bytes ≡ body ++ rest → HasBody zone h body → (has_body zone h bytes ≡ true) × (body_in zone h.size bytes ≡ body)
 body_found WalHeaders h body rest bytes behind is = (refl, sym is)
 body_found _ h body rest bytes behind is = body_back h body rest bytes behind is
 
 -- bytes that begin with a unit show it
-pub begun_is_shown : (layout : Layout) (cluster : ℕ) (place : Place) (bytes : List ℕ) (u : Message) → BeginsWithUnit layout cluster place bytes u → unit_in layout cluster place bytes ≡ Some u
-begun_is_shown layout cluster place bytes u begun =
-    let is = begun.is in
-    let long = length-spelling u.header is.sealed in
+pub begun_is_shown : (layout : Layout) (cluster : ℕ) (place : Place) (bytes : List ℕ) (u : Message)
+    → BeginsWithUnit layout cluster place bytes u → unit_in layout cluster place bytes ≡ Some u
+begun_is_shown layout cluster place bytes u begun = let is = begun.is in let long = length-spelling u.header is.sealed in
     let all : bytes ≡ spelling u.header ++ (u.body ++ begun.rest) = begun.spelled ∙ append_assoc (spelling u.header) u.body begun.rest in
     let head : take 256 bytes ≡ spelling u.header = ap (λ (l : List ℕ). take 256 l) all ∙ take_at (spelling u.header) _ 256 long in
     let behind : drop 256 bytes ≡ u.body ++ begun.rest = ap (λ (l : List ℕ). drop 256 l) all ∙ drop_at (spelling u.header) _ 256 long in
@@ -186,20 +183,21 @@ unfolding is_blank
 blank-from bytes is = (bytes_eq-Decides _ _).1 is
 
 -- blank bytes are no whole unit
-pub whole_is_not_blank : (layout : Layout) (cluster : ℕ) (zone : Zone) (bytes : List ℕ) (w : Whole) → whole_in layout cluster zone bytes ≡ Some w → is_blank bytes ≡ false
-whole_is_not_blank layout cluster zone bytes w is =
-    false_from_ne_true _ (λ blank. zeros_are_none bytes w.unit.header (blank-true bytes blank) (whole_found layout cluster zone bytes w is).header)
+pub whole_is_not_blank : (layout : Layout) (cluster : ℕ) (zone : Zone) (bytes : List ℕ) (w : Whole)
+    → whole_in layout cluster zone bytes ≡ Some w → is_blank bytes ≡ false
+whole_is_not_blank layout cluster zone bytes w is = false_from_ne_true _ (λ blank.
+    zeros_are_none bytes w.unit.header (blank-true bytes blank) (whole_found layout cluster zone bytes w is).header)
 
 pub valid_stale : ValidIsStale
 unfolding class_of
 valid_stale layout cluster place bytes u is =
     let whole = found_whole layout cluster place.zone bytes u place (unit_found layout cluster place bytes u is) in
     cond-false _ Blank _ (whole_is_not_blank layout cluster place.zone bytes _ whole)
-    ∙ ap (λ (o : Option Whole). class_of_whole place o) whole
-    ∙ cond-true _ Stale (Elsewhere place) (same_place-self place)
+    ∙ ap (λ (o : Option Whole). class_of_whole place o) whole ∙ cond-true _ Stale (Elsewhere place) (same_place-self place)
 
 -- a place that shows a unit, where another one is wanted, is stale
-pub shown_stale : (layout : Layout) (cluster : ℕ) (image : Image) (place : Place) (u : Message) → unit_at layout cluster image place ≡ Some u → class_at layout cluster image place ≡ Stale
+pub shown_stale : (layout : Layout) (cluster : ℕ) (image : Image) (place : Place) (u : Message)
+    → unit_at layout cluster image place ≡ Some u → class_at layout cluster image place ≡ Stale
 unfolding unit_at class_at
 shown_stale layout cluster image place u shown = valid_stale layout cluster place (bytes_of layout image place) u shown
 
@@ -218,20 +216,21 @@ unless_blank false class is = is
 
 pub stale_valid : StaleIsValid
 unfolding class_of unit_in
-stale_valid layout cluster place bytes is =
-    whole_stale place (whole_in layout cluster place.zone bytes) (unless_blank (is_blank bytes) (class_of_whole place (whole_in layout cluster place.zone bytes)) is)
+stale_valid layout cluster place bytes is = whole_stale place (whole_in layout cluster place.zone bytes)
+    (unless_blank (is_blank bytes) (class_of_whole place (whole_in layout cluster place.zone bytes)) is)
 
 elsewhere_by : (b : Bool) (own other : Place) → cond b Stale (Elsewhere own) ≡ Elsewhere other → (b ≡ false) × (own ≡ other)
 elsewhere_by true own other is = absurd (cc)
 elsewhere_by false own other is = (refl, cc)
 
-whole_elsewhere : (layout : Layout) (cluster : ℕ) (place other : Place) (bytes : List ℕ) (o : Option Whole) → class_of_whole place o ≡ Elsewhere other → whole_in layout cluster place.zone bytes ≡ o → HasPlace layout other × (other ≢ place)
+whole_elsewhere : (layout : Layout) (cluster : ℕ) (place other : Place) (bytes : List ℕ) (o : Option Whole)
+    → class_of_whole place o ≡ Elsewhere other → whole_in layout cluster place.zone bytes ≡ o → HasPlace layout other × (other ≢ place)
 whole_elsewhere layout cluster place other bytes None is from = absurd (cc)
-whole_elsewhere layout cluster place other bytes (Some w) is from =
-    let parts = elsewhere_by (same_place w.own place) w.own other is in
+whole_elsewhere layout cluster place other bytes (Some w) is from = let parts = elsewhere_by (same_place w.own place) w.own other is in
     let found = whole_found layout cluster place.zone bytes w from in (
       rw parts.1 at (own_is layout place.zone w.unit.header w.own found.belongs).has,
-      λ same. let both : same_place w.own place ≡ true = ap (λ (p : Place). same_place p place) (parts.1 ∙ same) ∙ same_place-self place in absurd (cc (both, parts.0)),
+      λ same. let both : same_place w.own place ≡ true = ap (λ (p : Place). same_place p place) (parts.1 ∙ same) ∙ same_place-self place in
+          absurd (cc (both, parts.0)),
     )
 
 not_blank : (b : Bool) (class : Class) (other : Place) → cond b Blank class ≡ Elsewhere other → class ≡ Elsewhere other

@@ -4,11 +4,8 @@ use Rattle.df_freeset.{specs.{Addresses.{AreAllTaken, count_free}, Bits.{IsRoom,
 
 -- of n addresses those are free whose bit isn't set
 pub free_and_ones : (words : List ℕ) (n : ℕ) → IsRoom words n → count_free (taken_in words n) + sum_by count_ones words ≡ n
-free_and_ones words n room =
-    let f : ℕ → Bool = bit_in words in
-    let size : length words ≡ (n + 63) / 64 = room.size in
-    let rest : ℕ = 64 * length words - n in
-    let whole : 64 * length words ≡ n + rest = omega arith in
+free_and_ones words n room = let f : ℕ → Bool = bit_in words in let size : length words ≡ (n + 63) / 64 = room.size in
+    let rest : ℕ = 64 * length words - n in let whole : 64 * length words ≡ n + rest = omega arith in
     let ones : tally f 0 (64 * length words) ≡ sum_by count_ones words = tally_words words room.words_fit in
     let split : tally f 0 (n + rest) ≡ tally f 0 n + tally f (0 + n) rest = tally_split f 0 n rest in
     let unused : tally f (0 + n) rest ≡ 0 = tally_none f (0 + n) rest (λ i h. room.unused ((0 + n) + i) (omega arith)) in
@@ -22,13 +19,15 @@ free-cons b taken = sum_by-cons (λ x. cond (not x) 1 0) b taken
 -- a free address is taken
 pub one_fewer : (taken : List Bool) (i : ℕ) → slice_get taken i ≡ Some false → count_free (set taken i true) + 1 ≡ count_free taken
 one_fewer [] i is = cc
-one_fewer (b ∷ taken) zero is = let e : b ≡ false = cc in omega (arith, free-cons true taken, free-cons b taken, ap {B = ℕ} (λ (x : Bool). cond (not x) 1 0) e)
+one_fewer (b ∷ taken) zero is = let e : b ≡ false = cc in
+    omega (arith, free-cons true taken, free-cons b taken, ap {B = ℕ} (λ (x : Bool). cond (not x) 1 0) e)
 one_fewer (b ∷ taken) (suc i) is = omega (arith, free-cons b taken, free-cons b (set taken i true), one_fewer taken i is)
 
 -- a taken address is given back
 pub one_more : (taken : List Bool) (i : ℕ) → slice_get taken i ≡ Some true → count_free (set taken i false) ≡ count_free taken + 1
 one_more [] i is = cc
-one_more (b ∷ taken) zero is = let e : b ≡ true = cc in omega (arith, free-cons false taken, free-cons b taken, ap {B = ℕ} (λ (x : Bool). cond (not x) 1 0) e)
+one_more (b ∷ taken) zero is = let e : b ≡ true = cc in
+    omega (arith, free-cons false taken, free-cons b taken, ap {B = ℕ} (λ (x : Bool). cond (not x) 1 0) e)
 one_more (b ∷ taken) (suc i) is = omega (arith, free-cons b taken, free-cons b (set taken i false), one_more taken i is)
 
 none_at : (taken : List Bool) → count_free taken ≡ 0 → (i : ℕ) → i < length taken → slice_get taken i ≡ Some true

@@ -9,8 +9,8 @@ pub get_taken : (words : List ℕ) (n k : ℕ) (d : Bool) → k < n → get_or (
 get_taken words n k d within = get_or-map-range_with_len (bit_in words) 0 n k k d within (omega arith)
 
 pub taken_at : (words : List ℕ) (n k : ℕ) → k < n → slice_get (taken_in words n) k ≡ Some (bit_in words k)
-taken_at words n k within =
-    slice_get-get_or (taken_in words n) k true (omega (arith, length_taken words n)) ∙ ap (λ (b : Bool). Some b) (get_taken words n k true within)
+taken_at words n k within = slice_get-get_or (taken_in words n) k true (omega (arith, length_taken words n))
+    ∙ ap (λ (b : Bool). Some b) (get_taken words n k true within)
 
 -- the new words have this bit, and all others as before
 pub record WritesBit (words new : List ℕ) (bit : ℕ) (value : Bool) : Type 0 where
@@ -20,14 +20,14 @@ pub record WritesBit (words new : List ℕ) (bit : ℕ) (value : Bool) : Type 0 
   pub others : (k : ℕ) → k ≢ bit → bit_in new k ≡ bit_in words k
 
 -- the list of taken addresses has one place written
-pub taken_written : (words new : List ℕ) (n bit : ℕ) (value : Bool) → bit < n → WritesBit words new bit value → taken_in new n ≡ set (taken_in words n) bit value
-taken_written words new n bit value within writes =
-    sym (fill_by_all (bit_in new) (set (taken_in words n) bit value) n true (length-set (taken_in words n) bit value ∙ length_taken words n) each)
+pub taken_written : (words new : List ℕ) (n bit : ℕ) (value : Bool)
+    → bit < n → WritesBit words new bit value → taken_in new n ≡ set (taken_in words n) bit value
+taken_written words new n bit value within writes = sym (fill_by_all
+    (bit_in new) (set (taken_in words n) bit value) n true (length-set (taken_in words n) bit value ∙ length_taken words n) each)
   where
     each : (k : ℕ) → k < n → get_or (set (taken_in words n) bit value) k true ≡ bit_in new k
     each k h = elim (cases_eq k bit) [
-      | inl same ↦
-          let inside : bit < length (taken_in words n) = omega (arith, length_taken words n) in
+      | inl same ↦ let inside : bit < length (taken_in words n) = omega (arith, length_taken words n) in
           rw (same, get_or-set_same (taken_in words n) bit value true inside) (sym writes.there)
       | inr other ↦ rw (get_or-set_other (taken_in words n) bit k value true other, get_taken words n k true h) (sym (writes.others k other))
     ]
@@ -54,13 +54,11 @@ set_word word b fits within = record {
 }
 
 clear_word : (word b : ℕ) → word < 2 ^ 64 → b < 64 → ChangesWord word (without_bit word b) b false
-clear_word word b fits within =
-    let clear : bit_at (without_bit word b) b ≡ 0 = bit_at_clear_same w64 word b within in
-    record {
-      fits = omega (arith, and_le_l word (bit_not w64 (1 * 2 ^ b % 2 ^ 64)));
-      there = rw clear refl;
-      others = λ j h other. bit_at_clear_other w64 word b within j h other;
-    }
+clear_word word b fits within = let clear : bit_at (without_bit word b) b ≡ 0 = bit_at_clear_same w64 word b within in record {
+  fits = omega (arith, and_le_l word (bit_not w64 (1 * 2 ^ b % 2 ^ 64)));
+  there = rw clear refl;
+  others = λ j h other. bit_at_clear_other w64 word b within j h other;
+}
 
 word_writes : (words : List ℕ) (bit new : ℕ) (value : Bool) → ((i : ℕ) → slice_index words i < 2 ^ 64) → bit / 64 < length words
     → ChangesWord (slice_index words (bit / 64)) new (bit % 64) value → WritesBit words (set words (bit / 64) new) bit value
@@ -72,9 +70,7 @@ word_writes words bit new value fit within changes = record {
   ];
   there = rw (get_or-set_same words (bit / 64) new 0 within) changes.there;
   others = λ k other. elim (cases_eq (k / 64) (bit / 64)) [
-    | inl same ↦
-        let column : k % 64 ≢ bit % 64 = omega arith in
-        let small : k % 64 < 64 = omega arith in
+    | inl same ↦ let column : k % 64 ≢ bit % 64 = omega arith in let small : k % 64 < 64 = omega arith in
         rw (same, get_or-set_same words (bit / 64) new 0 within, changes.others (k % 64) small column) refl
     | inr row ↦ rw (get_or-set_other words (bit / 64) (k / 64) new 0 row) refl
   ];
@@ -84,19 +80,18 @@ word_writes words bit new value fit within changes = record {
 pub word_inside : (words : List ℕ) (n bit : ℕ) → IsRoom words n → bit < n → bit / 64 < length words
 word_inside words n bit room within = let size = room.size in omega arith
 
-pub set_writes : (words : List ℕ) (n bit : ℕ) → IsRoom words n → bit < n
-    → WritesBit words (setting words bit) bit true
-set_writes words n bit room within =
-    word_writes words bit _ true room.words_fit (word_inside words n bit room within) (set_word (slice_index words (bit / 64)) (bit % 64) (room.words_fit (bit / 64)) (omega arith))
+pub set_writes : (words : List ℕ) (n bit : ℕ) → IsRoom words n → bit < n → WritesBit words (setting words bit) bit true
+set_writes words n bit room within = word_writes words bit _ true room.words_fit
+    (word_inside words n bit room within) (set_word (slice_index words (bit / 64)) (bit % 64) (room.words_fit (bit / 64)) (omega arith))
 
-pub clear_writes : (words : List ℕ) (n bit : ℕ) → IsRoom words n → bit < n
-    → WritesBit words (clearing words bit) bit false
-clear_writes words n bit room within =
-    word_writes words bit _ false room.words_fit (word_inside words n bit room within) (clear_word (slice_index words (bit / 64)) (bit % 64) (room.words_fit (bit / 64)) (omega arith))
+pub clear_writes : (words : List ℕ) (n bit : ℕ) → IsRoom words n → bit < n → WritesBit words (clearing words bit) bit false
+clear_writes words n bit room within = word_writes words bit _ false room.words_fit
+    (word_inside words n bit room within) (clear_word (slice_index words (bit / 64)) (bit % 64) (room.words_fit (bit / 64)) (omega arith))
 
 -- no bit of zeros is set
 pub taken_zeros : (words : List ℕ) (n : ℕ) → ((i : ℕ) → slice_index words i ≡ 0) → taken_in words n ≡ replicate n false
-taken_zeros words n zeros = sym (fill_by_all (bit_in words) (replicate n false) n true (length-replicate n false) (λ k h. get_or-replicate n k false true h ∙ sym (clear k)))
+taken_zeros words n zeros = sym (fill_by_all (bit_in words) (replicate n false) n true (length-replicate n false) (λ k h.
+    get_or-replicate n k false true h ∙ sym (clear k)))
   where
     clear : (k : ℕ) → bit_in words k ≡ false
     clear k = rw (zeros (k / 64), bit_at-zero (k % 64)) refl

@@ -5,12 +5,14 @@ use Rattle.df_units.specs.Meaning.{number_of}
 use Rattle.df_grid.{specs.{declared.entry.Entry.{Entry}, Entries.{is_marked}, Table.{AreTaken, IsGridTable, blocks_in, capturing, finishing, is_captured, is_durable, is_live, open_from, paired, picked}}, proofs.{Picks.{pick_at, pick_map, pick_none}, Chains.{pair_same, sum_map}, Free.{open_rise}}}
 
 -- an entry of a changed list is one of the list, changed
-pub get_map : (f : Entry → Entry) (es : List Entry) (i : ℕ) (x : Entry) → slice_get (map f es) i ≡ Some x → (e : Entry) × (slice_get es i ≡ Some e) × (x ≡ f e)
+pub get_map : (f : Entry → Entry) (es : List Entry) (i : ℕ) (x : Entry)
+    → slice_get (map f es) i ≡ Some x → (e : Entry) × (slice_get es i ≡ Some e) × (x ≡ f e)
 get_map f [] i x at = absurd (cc)
 get_map f (e ∷ es) zero x at = (e, refl, (let same : x ≡ f e = cc in same))
 get_map f (e ∷ es) (suc i) x at = get_map f es i x at
 
-pairs_map : (f : Entry → Entry) (es : List Entry) (xs : List ℕ) → ((e : Entry) → (f e).checksum ≡ e.checksum) → paired (map f es) xs ≡ paired es xs
+pairs_map : (f : Entry → Entry) (es : List Entry) (xs : List ℕ)
+    → ((e : Entry) → (f e).checksum ≡ e.checksum) → paired (map f es) xs ≡ paired es xs
 pairs_map f es xs same = pair_same es (map f es) xs (λ a has. sum_map f a es same)
 
 pub no_pairs : (es : List Entry) (xs : List ℕ) → paired es xs ≡ [] → xs ≡ []
@@ -34,7 +36,8 @@ open_free a s [] has = absurd (cc)
 open_free a s (true ∷ ts) has = let later = open_free a (s + 1) ts has in (suc later.0, omega (arith, later.1), later.2)
 open_free a s (false ∷ ts) has = go (a == s) refl has (λ there. open_free a (s + 1) ts there)
   where
-    go : (b : Bool) → (a == s) ≡ b → (b || is_in a (open_from (s + 1) ts)) ≡ true → (is_in a (open_from (s + 1) ts) ≡ true → (i : ℕ) × (a ≡ s + 1 + i) × (slice_get ts i ≡ Some false)) → (i : ℕ) × (a ≡ s + i) × (slice_get (false ∷ ts) i ≡ Some false)
+    go : (b : Bool) → (a == s) ≡ b → (b || is_in a (open_from (s + 1) ts)) ≡ true → (is_in a (open_from (s + 1) ts) ≡ true
+        → (i : ℕ) × (a ≡ s + 1 + i) × (slice_get ts i ≡ Some false)) → (i : ℕ) × (a ≡ s + i) × (slice_get (false ∷ ts) i ≡ Some false)
     go true same has more = (0, (let e : a ≡ s = eqb-true a s same in omega (arith, e)), refl)
     go false same has more = let later = more has in (suc later.0, omega (arith, later.1), later.2)
 
@@ -73,16 +76,19 @@ module _ (es : List Entry) (taken : List Bool) (chain : List ℕ) (is : IsGridTa
   captured_kept = record {
     size = so.size ∙ is.size ∙ sym (length-map es capturing);
     holds = λ a j x there found. (let was = get_map capturing es j x found in
-        so.each a j (is_marked was.0) there (was_taken a j was.0 there was.1) ∙ ap (λ (b : Bool). Some (b || is_in a left)) (sym (same_marks j was.0 was.1)) ∙ ap (λ (y : Entry). Some (is_marked y || is_in a left)) (sym was.2));
-    writes = λ a j x there found. (let was = get_map capturing es j x found in ap (λ (y : Entry). y.written) was.2 ∙ is.writes a j was.0 there was.1);
-    chains = λ a j x there found. (let was = get_map capturing es j x found in ap (λ (y : Entry). y.chained) was.2 ∙ is.chains a j was.0 there was.1);
-    spare = λ a j x there found has. (let was = get_map capturing es j x found in
-        let free = left_free a has in
-        let at : slice_get taken j ≡ Some false = ap (λ (k : ℕ). slice_get taken k) (let e : j ≡ free.0 = omega (arith, there, free.1) in e) ∙ free.2 in
+        so.each a j (is_marked was.0) there (was_taken a j was.0 there was.1) ∙ ap (λ (b : Bool).
+        Some (b || is_in a left)) (sym (same_marks j was.0 was.1)) ∙ ap (λ (y : Entry). Some (is_marked y || is_in a left)) (sym was.2));
+    writes = λ a j x there found.
+        (let was = get_map capturing es j x found in ap (λ (y : Entry). y.written) was.2 ∙ is.writes a j was.0 there was.1);
+    chains = λ a j x there found.
+        (let was = get_map capturing es j x found in ap (λ (y : Entry). y.chained) was.2 ∙ is.chains a j was.0 there was.1);
+    spare = λ a j x there found has. (let was = get_map capturing es j x found in let free = left_free a has in
+        let at : slice_get taken j ≡ Some false =
+        ap (λ (k : ℕ). slice_get taken k) (let e : j ≡ free.0 = omega (arith, there, free.1) in e) ∙ free.2 in
         let same : Some (is_marked was.0) ≡ Some false = sym (was_taken a j was.0 there was.1) ∙ at in
-        let clear : is_marked was.0 ≡ false = cc in
-        ap (λ (y : Entry). is_marked y) was.2 ∙ same_marks j was.0 was.1 ∙ clear);
-    inside = λ a has. (let free = left_free a has in (omega (arith, free.1), omega (arith, free.1, slice_get_within taken free.0 false free.2, is.size, length-map es capturing)));
+        let clear : is_marked was.0 ≡ false = cc in ap (λ (y : Entry). is_marked y) was.2 ∙ same_marks j was.0 was.1 ∙ clear);
+    inside = λ a has. (let free = left_free a has in
+        (omega (arith, free.1), omega (arith, free.1, slice_get_within taken free.0 false free.2, is.size, length-map es capturing)));
     once = rw (sym so.least) at (rise_take n 1 (open_from 1 taken) (open_rise 1 taken));
     room = omega (arith, few, ap length so.least, length-take n (open_from 1 taken));
   }
@@ -101,7 +107,8 @@ module _ (es : List Entry) (taken : List Bool) (written chain : List ℕ) (is : 
     size = size ∙ sym (length-map es finishing);
     holds = λ a j x there found. marks j x found ∙ ap Some (sym (or-false (is_marked x)));
     writes = λ a j x there found. ap (λ (y : Entry). y.written) (get_map finishing es j x found).2;
-    chains = λ a j x there found. (let was = get_map finishing es j x found in ap (λ (y : Entry). y.chained) was.2 ∙ is.writes a j was.0 there was.1);
+    chains = λ a j x there found.
+        (let was = get_map finishing es j x found in ap (λ (y : Entry). y.chained) was.2 ∙ is.writes a j was.0 there was.1);
     spare = λ a j x there found has. absurd (cc);
     inside = λ a has. absurd (cc);
     once = tt;

@@ -1,9 +1,7 @@
 -- Addresses with their checksums: what is looked up among them, and what changes of the table make of them.
 use Rattle.std.{proofs.Common.{◌≡◌, ◌≢◌, ℕ, zero, suc, ◌+◌, ◌<◌, ◌==◌, ◌||◌, Bool, true, false, cond, Some, None, List, [], ◌∷◌, map, set, refl, sym, ap, ◌∙◌, arith, ne_eqb, eqb-true}, specs.Prelude.{slice_get}}
-use Rattle.df_base.proofs.Laws.{same_test}
-use Rattle.df_model.specs.{Work.{is_in}, Blocks.{sum_at}, Sense.{RiseFrom}}
-use Rattle.df_units.specs.Meaning.{number_of}
-use Rattle.df_grid.specs.{declared.entry.Entry.{Entry}, Table.{paired, sum_at_address, sum_from}}
+use Rattle.{df_base.proofs.Laws.{same_test}, df_model.specs.{Work.{is_in}, Blocks.{sum_at}, Sense.{RiseFrom}}}
+use Rattle.{df_units.specs.Meaning.{number_of}, df_grid.specs.{declared.entry.Entry.{Entry}, Table.{paired, sum_at_address, sum_from}}}
 
 -- the checksum of an entry's address
 pub sum_there : (a i : ℕ) (es : List Entry) (e : Entry) → a ≡ suc i → slice_get es i ≡ Some e → sum_at_address es a ≡ number_of e.checksum
@@ -17,17 +15,20 @@ sum_there a i es e is at = ap (sum_at_address es) is ∙ from i es at
 -- an address is looked up exactly where it is one of them
 pub pair_at : (es : List Entry) (a : ℕ) (xs : List ℕ) → sum_at a (paired es xs) ≡ cond (is_in a xs) (Some (sum_at_address es a)) None
 pair_at es a [] = refl
-pair_at es a (x ∷ xs) = ap (λ (b : Bool). cond b (Some (sum_at_address es x)) (sum_at a (paired es xs))) (same_test x a) ∙ go (a == x) refl (pair_at es a xs)
+pair_at es a (x ∷ xs) =
+    ap (λ (b : Bool). cond b (Some (sum_at_address es x)) (sum_at a (paired es xs))) (same_test x a) ∙ go (a == x) refl (pair_at es a xs)
   where
-    go : (b : Bool) → (a == x) ≡ b → sum_at a (paired es xs) ≡ cond (is_in a xs) (Some (sum_at_address es a)) None → cond b (Some (sum_at_address es x)) (sum_at a (paired es xs)) ≡ cond (b || is_in a xs) (Some (sum_at_address es a)) None
+    go : (b : Bool) → (a == x) ≡ b → sum_at a (paired es xs) ≡ cond (is_in a xs) (Some (sum_at_address es a)) None
+        → cond b (Some (sum_at_address es x)) (sum_at a (paired es xs)) ≡ cond (b || is_in a xs) (Some (sum_at_address es a)) None
     go true is more = ap (λ (k : ℕ). Some (sum_at_address es k)) (sym (eqb-true a x is))
     go false is more = more
 
 -- tables with the same checksums
-pub pair_same : (es fs : List Entry) (xs : List ℕ) → ((a : ℕ) → is_in a xs ≡ true → sum_at_address fs a ≡ sum_at_address es a) → paired fs xs ≡ paired es xs
+pub pair_same : (es fs : List Entry) (xs : List ℕ)
+    → ((a : ℕ) → is_in a xs ≡ true → sum_at_address fs a ≡ sum_at_address es a) → paired fs xs ≡ paired es xs
 pair_same es fs [] same = refl
-pair_same es fs (x ∷ xs) same =
-    ap (λ (c : ℕ). (x, c) ∷ paired fs xs) (same x (here x xs)) ∙ ap (λ (l : List (ℕ × ℕ)). (x, sum_at_address es x) ∷ l) (pair_same es fs xs (λ a there. same a (later a x xs there)))
+pair_same es fs (x ∷ xs) same = ap (λ (c : ℕ). (x, c) ∷ paired fs xs) (same x (here x xs))
+    ∙ ap (λ (l : List (ℕ × ℕ)). (x, sum_at_address es x) ∷ l) (pair_same es fs xs (λ a there. same a (later a x xs there)))
   where
     here : (x : ℕ) (xs : List ℕ) → ((x == x) || is_in x xs) ≡ true
     here x xs = ap (λ (b : Bool). b || is_in x xs) (yes x)
@@ -59,7 +60,8 @@ from_map f i [] same = refl
 from_map f zero (e ∷ es) same = ap number_of (same e)
 from_map f (suc i) (e ∷ es) same = from_map f i es same
 
-pub sum_map : (f : Entry → Entry) (a : ℕ) (es : List Entry) → ((e : Entry) → (f e).checksum ≡ e.checksum) → sum_at_address (map f es) a ≡ sum_at_address es a
+pub sum_map : (f : Entry → Entry) (a : ℕ) (es : List Entry)
+    → ((e : Entry) → (f e).checksum ≡ e.checksum) → sum_at_address (map f es) a ≡ sum_at_address es a
 sum_map f zero es same = refl
 sum_map f (suc i) es same = from_map f i es same
 
@@ -68,10 +70,12 @@ sum_map f (suc i) es same = from_map f i es same
 -- those that rise above an address don't have it
 pub rise_out : (a b : ℕ) (xs : List ℕ) → RiseFrom b xs → a < b → is_in a xs ≡ false
 rise_out a b [] rise less = refl
-rise_out a b (x ∷ xs) rise less = ap (λ (e : Bool). e || is_in a xs) (ne_eqb a x (λ same. omega (arith, rise.0))) ∙ rise_out a (x + 1) xs rise.1 (omega (arith, rise.0))
+rise_out a b (x ∷ xs) rise less =
+    ap (λ (e : Bool). e || is_in a xs) (ne_eqb a x (λ same. omega (arith, rise.0))) ∙ rise_out a (x + 1) xs rise.1 (omega (arith, rise.0))
 
 -- an entry that is changed and keeps its checksum leaves all of them
-pub sum_keep : (i : ℕ) (es : List Entry) (e old : Entry) (a : ℕ) → slice_get es i ≡ Some old → e.checksum ≡ old.checksum → sum_at_address (set es i e) a ≡ sum_at_address es a
+pub sum_keep : (i : ℕ) (es : List Entry) (e old : Entry) (a : ℕ)
+    → slice_get es i ≡ Some old → e.checksum ≡ old.checksum → sum_at_address (set es i e) a ≡ sum_at_address es a
 sum_keep i es e old zero at same = refl
 sum_keep i es e old (suc k) at same = from i k es at
   where

@@ -7,7 +7,8 @@ use Rattle.df_grid.{specs.{declared.entry.Entry.{Entry}, Entries.{HasEntry, is_m
 falls : {P : Type 0} (b : Bool) → b ≡ false → b ≡ true → P
 falls b clear is = not_both b is clear
 
-module _ (es : List Entry) (taken : List Bool) (written left chain : List ℕ) (is : IsGridTable es taken written left chain) (a i : ℕ) (old : Entry) (there : a ≡ suc i) (at : slice_get es i ≡ Some old) where
+module _ (es : List Entry) (taken : List Bool) (written left chain : List ℕ)
+    (is : IsGridTable es taken written left chain) (a i : ℕ) (old : Entry) (there : a ≡ suc i) (at : slice_get es i ≡ Some old) where
   here : a ≡ 1 + i
   here = omega (arith, there)
 
@@ -23,7 +24,8 @@ module _ (es : List Entry) (taken : List Bool) (written left chain : List ℕ) (
   pairs_same : (e : Entry) (xs : List ℕ) → e.checksum ≡ old.checksum → paired (set es i e) xs ≡ paired es xs
   pairs_same e xs same = pair_same es (set es i e) xs (λ k has. sum_keep i es e old k at same)
 
-  same_lists : (e : Entry) → e.written ≡ old.written → e.chained ≡ old.chained → is_in a left ≡ false → Agrees es written left chain a e written left chain
+  same_lists : (e : Entry)
+      → e.written ≡ old.written → e.chained ≡ old.chained → is_in a left ≡ false → Agrees es written left chain a e written left chain
   same_lists e writes chains gone = record {
     writes = writes ∙ is.writes a i old there at;
     chains = chains ∙ is.chains a i old there at;
@@ -77,7 +79,8 @@ module _ (es : List Entry) (taken : List Bool) (written left chain : List ℕ) (
       ) refl
 
       pub durable_kept : is_in a left ≡ false → IsGridTable (set es i now_durable) (set taken i (is_marked now_durable)) written left chain
-      durable_kept gone = kept es taken written left chain is a i old now_durable there at written left chain (same_lists now_durable refl (sym was.chained) gone)
+      durable_kept gone = kept es
+          taken written left chain is a i old now_durable there at written left chain (same_lists now_durable refl (sym was.chained) gone)
 
       abbrev now_chained : Entry
       now_chained = record old { checksum = c; live = false; durable = false; chained = true }
@@ -85,7 +88,8 @@ module _ (es : List Entry) (taken : List Bool) (written left chain : List ℕ) (
       sum_now : (e : Entry) → e.checksum ≡ c → sum_at_address (set es i e) a ≡ number_of c
       sum_now e same = sum_there a i (set es i e) e there (get_set_same es i old e at) ∙ ap number_of same
 
-      pub chained_blocks : blocks_in (set es i now_chained) written left (a ∷ chain) ≡ adopted (blocks_in es written left chain) false a (number_of c)
+      pub chained_blocks : blocks_in (set es i now_chained) written left (a ∷ chain)
+          ≡ adopted (blocks_in es written left chain) false a (number_of c)
       chained_blocks = rw (
         pick_keep is_live 1 i es now_chained old at (sym was.live) (λ set. falls old.live was.live set),
         pick_keep is_captured 1 i es now_chained old at refl (λ set. falls old.captured was.captured set),
@@ -111,7 +115,8 @@ module _ (es : List Entry) (taken : List Bool) (written left chain : List ℕ) (
       abbrev now_written : Entry
       now_written = record old { checksum = c; written = true }
 
-      pub written_blocks : (more : List ℕ) → blocks_in (set es i now_written) (a ∷ written) more chain ≡ trailer_written (blocks_in es written left chain) a (number_of c) more
+      pub written_blocks : (more : List ℕ) → blocks_in (set es i now_written) (a ∷ written) more chain
+          ≡ trailer_written (blocks_in es written left chain) a (number_of c) more
       written_blocks more = rw (
         pick_keep is_live 1 i es now_written old at refl (λ set. falls old.live was.live set),
         pick_keep is_captured 1 i es now_written old at refl (λ set. falls old.captured was.captured set),
@@ -136,7 +141,8 @@ module _ (es : List Entry) (taken : List Bool) (written left chain : List ℕ) (
   ) refl
 
   pub dead_kept : old.live ≡ true → IsGridTable (set es i now_dead) (set taken i (is_marked now_dead)) written left chain
-  dead_kept live = kept es taken written left chain is a i old now_dead there at written left chain (same_lists now_dead refl refl (marked_gone (or_left old.live _ live)))
+  dead_kept live = kept es taken written
+      left chain is a i old now_dead there at written left chain (same_lists now_dead refl refl (marked_gone (or_left old.live _ live)))
 
 lower : (s : ℕ) (xs : List ℕ) → RiseFrom (s + 1) xs → RiseFrom 1 xs
 lower s [] rise = tt
@@ -147,22 +153,28 @@ aside true true m = refl
 aside true false m = refl
 aside false w m = refl
 
-pub written_kept : (es : List Entry) (taken : List Bool) (written more chain : List ℕ) (a i : ℕ) (old : Entry) (c : List ℕ) → IsGridTable es taken written (a ∷ more) chain → a ≡ suc i → slice_get es i ≡ Some old
-    → IsGridTable (set es i (record old { checksum = c; written = true })) (set taken i (is_marked (record old { checksum = c; written = true }))) (a ∷ written) more chain
-written_kept es taken written more chain a i old c is there at = kept es taken written (a ∷ more) chain is a i old (record old { checksum = c; written = true }) there at (a ∷ written) more chain (record {
-  writes = sym (or_left (a == a) (is_in a written) (eq-eqb a a refl));
-  chains = is.chains a i old there at;
-  gone = rise_out a (a + 1) more is.once.1 (omega arith);
-  others = λ k other. (ap (λ (b : Bool). b || is_in k written) (ne_eqb k a other), sym (ap (λ (b : Bool). b || is_in k more) (ne_eqb k a other)), refl);
-  inside = λ k one. is.inside k (sym (aside (k == a) (is_in k written) (is_in k more)) ∙ one);
-  once = lower a more is.once.1;
-  room = omega (arith, is.room);
-})
+pub written_kept : (es : List Entry) (taken : List Bool) (written more chain : List ℕ) (a i : ℕ) (old : Entry) (c : List ℕ)
+    → IsGridTable es taken written (a ∷ more) chain → a ≡ suc i → slice_get es i ≡ Some old
+    → IsGridTable (set es i (record old { checksum = c; written = true }))
+    (set taken i (is_marked (record old { checksum = c; written = true }))) (a ∷ written) more chain
+written_kept es taken written more chain a i old c is there at = kept
+    es taken written (a ∷ more) chain is a i old (record old { checksum = c; written = true }) there at (a ∷ written) more chain (record {
+      writes = sym (or_left (a == a) (is_in a written) (eq-eqb a a refl));
+      chains = is.chains a i old there at;
+      gone = rise_out a (a + 1) more is.once.1 (omega arith);
+      others = λ k other.
+          (ap (λ (b : Bool). b || is_in k written) (ne_eqb k a other), sym (ap (λ (b : Bool). b || is_in k more) (ne_eqb k a other)), refl);
+      inside = λ k one. is.inside k (sym (aside (k == a) (is_in k written) (is_in k more)) ∙ one);
+      once = lower a more is.once.1;
+      room = omega (arith, is.room);
+    })
 
 -- the address that is next isn't marked
-pub next_spare : (es : List Entry) (taken : List Bool) (written more chain : List ℕ) (a i : ℕ) (old : Entry) → IsGridTable es taken written (a ∷ more) chain → a ≡ suc i → slice_get es i ≡ Some old → is_marked old ≡ false
+pub next_spare : (es : List Entry) (taken : List Bool) (written more chain : List ℕ) (a i : ℕ) (old : Entry)
+    → IsGridTable es taken written (a ∷ more) chain → a ≡ suc i → slice_get es i ≡ Some old → is_marked old ≡ false
 next_spare es taken written more chain a i old is there at = is.spare a i old there at (or_left (a == a) (is_in a more) (eq-eqb a a refl))
 
 -- and is one of the table's
-pub next_inside : (es : List Entry) (taken : List Bool) (written more chain : List ℕ) (a : ℕ) → IsGridTable es taken written (a ∷ more) chain → HasEntry es a
+pub next_inside : (es : List Entry) (taken : List Bool) (written more chain : List ℕ) (a : ℕ)
+    → IsGridTable es taken written (a ∷ more) chain → HasEntry es a
 next_inside es taken written more chain a is = is.inside a (or_right (is_in a written) _ (or_left (a == a) (is_in a more) (eq-eqb a a refl)))

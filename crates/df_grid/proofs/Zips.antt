@@ -33,8 +33,7 @@ module _ (l c w d h : Bool) where
   fifth = omega (arith, small l, small c, small w, small d, small h)
 
 pub entry_back : (e : Entry) → entry_of e.checksum (mark_of e) ≡ e
-entry_back e =
-    let l = is_one e.live (mark_of e % 2) (first e.live e.captured e.written e.durable e.chained) in
+entry_back e = let l = is_one e.live (mark_of e % 2) (first e.live e.captured e.written e.durable e.chained) in
     let c = is_one e.captured (mark_of e / 2 % 2) (second e.live e.captured e.written e.durable e.chained) in
     let w = is_one e.written (mark_of e / 4 % 2) (third e.live e.captured e.written e.durable e.chained) in
     let d = is_one e.durable (mark_of e / 8 % 2) (fourth e.live e.captured e.written e.durable e.chained) in
@@ -43,15 +42,13 @@ entry_back e =
     ∙ ap (λ (b : Bool). record { checksum = e.checksum; live = e.live; captured = b; written = mark_of e / 4 % 2 == 1; durable = mark_of e / 8 % 2 == 1; chained = mark_of e / 16 % 2 == 1 }) c
     ∙ ap (λ (b : Bool). record { checksum = e.checksum; live = e.live; captured = e.captured; written = b; durable = mark_of e / 8 % 2 == 1; chained = mark_of e / 16 % 2 == 1 }) w
     ∙ ap (λ (b : Bool). record { checksum = e.checksum; live = e.live; captured = e.captured; written = e.written; durable = b; chained = mark_of e / 16 % 2 == 1 }) d
-    ∙ ap (λ (b : Bool). record { checksum = e.checksum; live = e.live; captured = e.captured; written = e.written; durable = e.durable; chained = b }) h
+    ∙ ap (λ (b : Bool).
+    record { checksum = e.checksum; live = e.live; captured = e.captured; written = e.written; durable = e.durable; chained = b }) h
 
 -- the mark of a finished entry
 entry_finished_of : (c : List ℕ) (m n : ℕ) → n ≡ m % 2 + 8 * (m / 2 % 4) → entry_of c n ≡ finishing (entry_of c m)
-entry_finished_of c m n is =
-    let live : n % 2 ≡ m % 2 = omega (arith, is) in
-    let captured : n / 2 % 2 ≡ 0 = omega (arith, is) in
-    let written : n / 4 % 2 ≡ 0 = omega (arith, is) in
-    let durable : n / 8 % 2 ≡ m / 2 % 2 = omega (arith, is) in
+entry_finished_of c m n is = let live : n % 2 ≡ m % 2 = omega (arith, is) in let captured : n / 2 % 2 ≡ 0 = omega (arith, is) in
+    let written : n / 4 % 2 ≡ 0 = omega (arith, is) in let durable : n / 8 % 2 ≡ m / 2 % 2 = omega (arith, is) in
     let chained : n / 16 % 2 ≡ m / 4 % 2 = omega (arith, is) in
     λ i. record { checksum = c; live = live i == 1; captured = captured i == 1; written = written i == 1; durable = durable i == 1; chained = chained i == 1 }
 
@@ -61,7 +58,8 @@ entry_finished c m = entry_finished_of c m (m % 2 + 8 * (m / 2 % 4)) refl
 nonzero : (n : ℕ) → 0 < n → true ≡ not (n == 0)
 nonzero n some = sym (ap not (ne_eqb n 0 (λ none. absurd (omega (arith, none, some)))))
 
-bits : (a b d n : ℕ) → a ≤ 1 → b ≤ 1 → d ≤ 1 → n ≡ a + 8 * (b + 2 * d) → ((a == 1) || (false || (false || ((b == 1) || (d == 1))))) ≡ not (n == 0)
+bits : (a b d n : ℕ)
+    → a ≤ 1 → b ≤ 1 → d ≤ 1 → n ≡ a + 8 * (b + 2 * d) → ((a == 1) || (false || (false || ((b == 1) || (d == 1))))) ≡ not (n == 0)
 bits zero zero zero n la lb ld is = rw is refl
 bits (suc zero) b d n la lb ld is = nonzero n (omega (arith, is))
 bits zero (suc zero) d n la lb ld is = nonzero n (omega (arith, is))
@@ -71,7 +69,8 @@ bits zero (suc (suc b)) d n la lb ld is = absurd (omega (arith, lb))
 bits zero zero (suc (suc d)) n la lb ld is = absurd (omega (arith, ld))
 
 pub marked_finished : (c : List ℕ) (m : ℕ) → is_marked (entry_of c (m % 2 + 8 * (m / 2 % 4))) ≡ not (m % 2 + 8 * (m / 2 % 4) == 0)
-marked_finished c m = ap is_marked (entry_finished c m) ∙ bits (m % 2) (m / 2 % 2) (m / 4 % 2) (m % 2 + 8 * (m / 2 % 4)) (omega arith) (omega arith) (omega arith) (omega arith)
+marked_finished c m = ap is_marked (entry_finished c m)
+    ∙ bits (m % 2) (m / 2 % 2) (m / 4 % 2) (m % 2 + 8 * (m / 2 % 4)) (omega arith) (omega arith) (omega arith) (omega arith)
 
 -- ---- lists side by side
 
@@ -92,23 +91,24 @@ has_place checks marks seen address same is has = record {
   mark = omega (arith, has.0, has.1, same, length_entries checks marks same, ap length is);
 }
 
-pub get_entries : (cs : List (List ℕ)) (ms : List ℕ) (i : ℕ) (c : List ℕ) (m : ℕ) → slice_get cs i ≡ Some c → slice_get ms i ≡ Some m → slice_get (entries_of cs ms) i ≡ Some (entry_of c m)
+pub get_entries : (cs : List (List ℕ)) (ms : List ℕ) (i : ℕ) (c : List ℕ) (m : ℕ)
+    → slice_get cs i ≡ Some c → slice_get ms i ≡ Some m → slice_get (entries_of cs ms) i ≡ Some (entry_of c m)
 get_entries [] ms i c m has marked = cc
 get_entries (x ∷ cs) [] i c m has marked = cc
-get_entries (x ∷ cs) (y ∷ ms) zero c m has marked =
-    let one : x ≡ c = cc in
-    let two : y ≡ m = cc in
+get_entries (x ∷ cs) (y ∷ ms) zero c m has marked = let one : x ≡ c = cc in let two : y ≡ m = cc in
     ap (λ (z : List ℕ). Some (entry_of z y)) one ∙ ap (λ (z : ℕ). Some (entry_of c z)) two
 get_entries (x ∷ cs) (y ∷ ms) (suc i) c m has marked = get_entries cs ms i c m has marked
 
-pub set_entries : (cs : List (List ℕ)) (ms : List ℕ) (i : ℕ) (e : Entry) → length cs ≡ length ms → entries_of (set cs i e.checksum) (set ms i (mark_of e)) ≡ set (entries_of cs ms) i e
+pub set_entries : (cs : List (List ℕ)) (ms : List ℕ) (i : ℕ) (e : Entry)
+    → length cs ≡ length ms → entries_of (set cs i e.checksum) (set ms i (mark_of e)) ≡ set (entries_of cs ms) i e
 set_entries [] ms i e same = refl
 set_entries (c ∷ cs) [] i e same = absurd (omega arith)
 set_entries (c ∷ cs) (m ∷ ms) zero e same = ap (λ (x : Entry). x ∷ entries_of cs ms) (entry_back e)
 set_entries (c ∷ cs) (m ∷ ms) (suc i) e same = ap (λ (es : List Entry). entry_of c m ∷ es) (set_entries cs ms i e (omega arith))
 
 -- a mark alone is replaced
-pub set_mark : (cs : List (List ℕ)) (ms : List ℕ) (i : ℕ) (c : List ℕ) (m : ℕ) → slice_get cs i ≡ Some c → entries_of cs (set ms i m) ≡ set (entries_of cs ms) i (entry_of c m)
+pub set_mark : (cs : List (List ℕ)) (ms : List ℕ) (i : ℕ) (c : List ℕ) (m : ℕ)
+    → slice_get cs i ≡ Some c → entries_of cs (set ms i m) ≡ set (entries_of cs ms) i (entry_of c m)
 set_mark [] ms i c m at = absurd (cc)
 set_mark (x ∷ cs) [] i c m at = refl
 set_mark (x ∷ cs) (y ∷ ms) zero c m at = let one : x ≡ c = cc in ap (λ (z : List ℕ). entry_of z m ∷ entries_of cs ms) one
@@ -120,10 +120,10 @@ pub record IsReplaced (cs : List (List ℕ)) (ms : List ℕ) (i mark : ℕ) (e :
   pub is : finishing e ≡ entry_of checksum mark
   pub entries : entries_of cs (set ms i mark) ≡ set (entries_of cs ms) i (finishing e)
 
-pub replaced : (cs : List (List ℕ)) (ms : List ℕ) (i before mark : ℕ) (e : Entry) → i < length cs → slice_get ms i ≡ Some before → ((c : List ℕ) → entry_of c mark ≡ finishing (entry_of c before))
+pub replaced : (cs : List (List ℕ)) (ms : List ℕ) (i before mark : ℕ) (e : Entry)
+    → i < length cs → slice_get ms i ≡ Some before → ((c : List ℕ) → entry_of c mark ≡ finishing (entry_of c before))
     → slice_get (entries_of cs ms) i ≡ Some e → IsReplaced cs ms i mark e
-replaced cs ms i before mark e less old new at =
-    let some = some_there cs i less in
+replaced cs ms i before mark e less old new at = let some = some_there cs i less in
     let was : entry_of some.0 before ≡ e = same_Some _ _ (sym (get_entries cs ms i some.0 before some.1 old) ∙ at) in
     let done : entry_of some.0 mark ≡ finishing e = new some.0 ∙ ap finishing was in
     record { checksum = some.0; is = sym done; entries = set_mark cs ms i some.0 mark some.1 ∙ ap (λ (x : Entry). set (entries_of cs ms) i x) done }

@@ -1,7 +1,6 @@
 -- A prepare says nothing of the head exactly where it was cut off with its group.
 use Rattle.std.{proofs.{Common.{◌≡◌, ◌==◌, ◌↔◌, inl, inr, ℕ, ◌+◌, ◌≤◌, Bool, true, false, refl, sym, ◌∙◌, ap, arith}, lemmas.Bool.{cases_Bool, cases_eq, cond-true, cond-false, eq-eqb, eqb-true, lt-ltb, ltb-true, ne_eqb}}, specs.Prelude.{nat_lt, ◌&&◌}}
-use Rattle.df_theory.specs.{Units.{Header}, Tails.{BindsHead, IsCutOff}}
-use Rattle.df_units.specs.Greatest.{in_boot}
+use Rattle.{df_theory.specs.{Units.{Header}, Tails.{BindsHead, IsCutOff}}, df_units.specs.Greatest.{in_boot}}
 use Rattle.df_group.specs.Cut.{binding_op, is_cut_off}
 
 -- the number of a unit of this boot
@@ -28,15 +27,14 @@ pub cut_off : (top : ℕ) (h : Header) → is_cut_off top h ≡ true ↔ IsCutOf
 cut_off top h = (to, from)
   where
     to : is_cut_off top h ≡ true → IsCutOff top h
-    to is =
-        let one = both_true (nat_lt 0 h.boot) ((h.group == top + 1) && (nat_lt h.group h.group_last && nat_lt top h.op)) is in
+    to is = let one = both_true (nat_lt 0 h.boot) ((h.group == top + 1) && (nat_lt h.group h.group_last && nat_lt top h.op)) is in
         let two = both_true (h.group == top + 1) (nat_lt h.group h.group_last && nat_lt top h.op) one.1 in
         let three = both_true (nat_lt h.group h.group_last) (nat_lt top h.op) two.1 in
         record { boot = ltb-true 0 h.boot one.0; first = eqb-true h.group (top + 1) two.0; several = ltb-true h.group h.group_last three.0; above = ltb-true top h.op three.1 }
 
     from : IsCutOff top h → is_cut_off top h ≡ true
-    from is =
-        let three = true_both (nat_lt h.group h.group_last) (nat_lt top h.op) (lt-ltb h.group h.group_last is.several) (lt-ltb top h.op is.above) in
+    from is = let three =
+        true_both (nat_lt h.group h.group_last) (nat_lt top h.op) (lt-ltb h.group h.group_last is.several) (lt-ltb top h.op is.above) in
         let two = true_both (h.group == top + 1) (nat_lt h.group h.group_last && nat_lt top h.op) (eq-eqb h.group (top + 1) is.first) three in
         true_both (nat_lt 0 h.boot) ((h.group == top + 1) && (nat_lt h.group h.group_last && nat_lt top h.op)) (lt-ltb 0 h.boot is.boot) two
 

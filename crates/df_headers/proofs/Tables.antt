@@ -1,11 +1,11 @@
 -- Tables of headers, and their sectors.
 use Rattle.std.{proofs.{Common.{◌≡◌, ◌⊎◌, inl, inr, ℕ, zero, suc, ◌+◌, ◌*◌, ◌<◌, List, [], ◌∷◌, length, take, drop, set, Some, refl, sym, ◌∙◌, ap, arith, length-take, length-drop}, lemmas.{List.{length-set}, Option.{slice_get_within, same_Some}}}, specs.List.{slice_get}}
-use Rattle.df_format.specs.declared.header.Header.{Header}
-use Rattle.df_units.{specs.Sample.{reserved_header}, proofs.Laws.{reserved_unit}}
+use Rattle.{df_format.specs.declared.header.Header.{Header}, df_units.{specs.Sample.{reserved_header}, proofs.Laws.{reserved_unit}}}
 use Rattle.df_headers.specs.Ring.{ReservedIsTable, TableIsKept, TableIsWritten, in_sector}
 
 -- what is read after a place was written: the new element there, the old one elsewhere
-pub set_cases : {X : Type 0} (xs : List X) (i k : ℕ) (x y : X) → slice_get (set xs i x) k ≡ Some y → ((k ≡ i) × (y ≡ x)) ⊎ ((k ≡ i → ⊥) × (slice_get xs k ≡ Some y))
+pub set_cases : {X : Type 0} (xs : List X) (i k : ℕ) (x y : X)
+    → slice_get (set xs i x) k ≡ Some y → ((k ≡ i) × (y ≡ x)) ⊎ ((k ≡ i → ⊥) × (slice_get xs k ≡ Some y))
 set_cases [] i k x y at = absurd (cc)
 set_cases (z ∷ xs) zero zero x y at = inl (refl, (let same : x ≡ y = cc in sym same))
 set_cases (z ∷ xs) zero (suc k) x y at = inr ((λ same. absurd (omega (arith, same))), at)
@@ -43,12 +43,13 @@ get_taken (suc n) i [] x inside at = absurd (cc)
 get_taken (suc n) zero (y ∷ xs) x inside at = at
 get_taken (suc n) (suc i) (y ∷ xs) x inside at = get_taken n i xs x (omega arith) at
 
-pub sector_at : (sector i : ℕ) (table : List Header) (h : Header) → slice_get (in_sector sector table) i ≡ Some h → (i < 16) × (slice_get table (16 * sector + i) ≡ Some h)
-sector_at sector i table h at =
-    let front = get_take 16 i (drop (16 * sector) table) h at in
+pub sector_at : (sector i : ℕ) (table : List Header) (h : Header)
+    → slice_get (in_sector sector table) i ≡ Some h → (i < 16) × (slice_get table (16 * sector + i) ≡ Some h)
+sector_at sector i table h at = let front = get_take 16 i (drop (16 * sector) table) h at in
     (front.0, sym (get_drop (16 * sector) i table) ∙ front.1)
 
-pub sector_has : (sector i : ℕ) (table : List Header) (h : Header) → i < 16 → slice_get table (16 * sector + i) ≡ Some h → slice_get (in_sector sector table) i ≡ Some h
+pub sector_has : (sector i : ℕ) (table : List Header) (h : Header)
+    → i < 16 → slice_get table (16 * sector + i) ≡ Some h → slice_get (in_sector sector table) i ≡ Some h
 sector_has sector i table h inside at = get_taken 16 i (drop (16 * sector) table) h inside (get_drop (16 * sector) i table ∙ at)
 
 pub table_written : TableIsWritten
@@ -66,8 +67,7 @@ table_written layout cluster sector table is inside = record {
 pub reserved_table : ReservedIsTable
 reserved_table layout cluster table named small count are = record {
   count = count;
-  each = λ slot h at.
-      let inside : slot < length table = slice_get_within table slot h at in
+  each = λ slot h at. let inside : slot < length table = slice_get_within table slot h at in
       let same : reserved_header cluster slot ≡ h = same_Some _ _ (sym (are slot inside) ∙ at) in
       rw same at (reserved_unit layout cluster slot named small (omega (arith, inside, count)));
 }

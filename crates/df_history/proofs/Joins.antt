@@ -14,10 +14,12 @@ pub images_back : (images rest : List Units) (place : Place) (x : AnyUnit) → I
 images_back [] rest place x at = at
 images_back (i ∷ images) rest place x at = inr (images_back images rest place x at)
 
-pub images_either : (images rest : List Units) (place : Place) (x : AnyUnit) → InImages (images ++ rest) place x → InImages images place x ⊎ InImages rest place x
+pub images_either : (images rest : List Units) (place : Place) (x : AnyUnit)
+    → InImages (images ++ rest) place x → InImages images place x ⊎ InImages rest place x
 images_either [] rest place x at = inr at
 images_either (i ∷ images) rest place x (inl here) = inl (inl here)
-images_either (i ∷ images) rest place x (inr there) = elim (images_either images rest place x there) [ inl front ↦ inl (inr front) | inr back ↦ inr back ]
+images_either (i ∷ images) rest place x (inr there) =
+    elim (images_either images rest place x there) [ inl front ↦ inl (inr front) | inr back ↦ inr back ]
 
 -- the oldest of the images
 abbrev pub EndsWith : List Units → Units → Type 0
@@ -68,32 +70,36 @@ one_log sh (image ∷ before ∷ images) v (holds, inl begins) empty = record {
   was = λ w a lived. lived.0;
   low = omega (arith, begins.0.content.sequence, begins.0.content.pin.0);
 }
-one_log sh (image ∷ images) v (holds, inr (history, (u, next, grows))) empty =
-    let o = one_log sh images u grows empty in
-    record {
-      lives = (holds, inr (u, Awake, inl (history, next), o.lives));
-      was = λ w a lived. elim lived [ inl is ↦ inl is.0 | inr older ↦ inr (o.was w a older) ];
-      low = o.low;
-    }
+one_log sh (image ∷ images) v (holds, inr (history, (u, next, grows))) empty = let o = one_log sh images u grows empty in record {
+  lives = (holds, inr (u, Awake, inl (history, next), o.lives));
+  was = λ w a lived. elim lived [ inl is ↦ inl is.0 | inr older ↦ inr (o.was w a older) ];
+  low = o.low;
+}
 
-pub empty_lives : (sh : Shape) (images : List Units) (v : View) (grows : Grows sh images v) → FromEmpty sh images v grows → Lives sh images v Awake
+pub empty_lives : (sh : Shape) (images : List Units) (v : View) (grows : Grows sh images v)
+    → FromEmpty sh images v grows → Lives sh images v Awake
 empty_lives sh images v grows empty = (one_log sh images v grows empty).lives
 
-pub from_blank : (sh : Shape) (images : List Units) (v : View) (grows : Grows sh images v) (start : Units) → EndsWith images start → ((place : Place) → start place ≡ None) → FromEmpty sh images v grows
+pub from_blank : (sh : Shape) (images : List Units) (v : View) (grows : Grows sh images v) (start : Units)
+    → EndsWith images start → ((place : Place) → start place ≡ None) → FromEmpty sh images v grows
 from_blank sh [] v grows start ends blank = grows
 from_blank sh (u ∷ []) v (holds, inl begins) start ends blank = unheld sh u v (λ place. ap (λ (j : Units). j place) ends ∙ blank place) holds
 from_blank sh (u ∷ []) v (holds, inr (history, (before, next, grows))) start ends blank = grows
 from_blank sh (u ∷ older ∷ us) v (holds, inl begins) start ends blank = tt
-from_blank sh (u ∷ older ∷ us) v (holds, inr (history, (before, next, grows))) start ends blank = from_blank sh (older ∷ us) before grows start ends blank
+from_blank sh (u ∷ older ∷ us) v (holds, inr (history, (before, next, grows))) start ends blank =
+    from_blank sh (older ∷ us) before grows start ends blank
 
 -- a log whose start holds a view and is older than its superblock
-pub started_lives : (sh : Shape) (images : List Units) (v : View) → Grows sh images v → (start : Units) (w : View) → EndsWith images start → Holds sh start w → Starts start [] w → Lives sh images v Awake
+pub started_lives : (sh : Shape) (images : List Units) (v : View) → Grows sh images v
+    → (start : Units) (w : View) → EndsWith images start → Holds sh start w → Starts start [] w → Lives sh images v Awake
 started_lives sh [] v grows start w ends holds starts = absurd grows
 started_lives sh (image ∷ []) v (here, inl begins) start w ends holds starts =
     (here, inl (refl, rw (sym ends) at (rw (one_view sh start w v holds (rw ends at here)) at starts)))
 started_lives sh (image ∷ []) v (here, inr (history, (u, next, grows))) start w ends holds starts = absurd grows
-started_lives sh (image ∷ before ∷ images) v (here, inl begins) start w ends holds starts = absurd (unheld sh start w (made_ends v.checkpoint.content (before ∷ images) start begins.2 ends) holds)
-started_lives sh (image ∷ before ∷ images) v (here, inr (history, (u, next, grows))) start w ends holds starts = (here, inr (u, Awake, inl (history, next), started_lives sh (before ∷ images) u grows start w ends holds starts))
+started_lives sh (image ∷ before ∷ images) v (here, inl begins) start w ends holds starts =
+    absurd (unheld sh start w (made_ends v.checkpoint.content (before ∷ images) start begins.2 ends) holds)
+started_lives sh (image ∷ before ∷ images) v (here, inr (history, (u, next, grows))) start w ends holds starts =
+    (here, inr (u, Awake, inl (history, next), started_lives sh (before ∷ images) u grows start w ends holds starts))
 
 -- ---- a later log
 
@@ -105,7 +111,8 @@ next_bare u _ (Reply place r is) bare = absurd (omega (arith, bare.replies))
 next_bare u _ (Finish c is) bare = absurd (omega (arith, bare.content.sequence, is.sequence))
 next_bare u _ (Boot d is) bare = inr (d, is, refl)
 
-pub on_holds : (sh : Shape) (rest : List Units) (image : Units) (images : List Units) (v : View) → GrowsOn sh rest (image ∷ images) v → Holds sh image v
+pub on_holds : (sh : Shape) (rest : List Units) (image : Units) (images : List Units) (v : View)
+    → GrowsOn sh rest (image ∷ images) v → Holds sh image v
 on_holds sh rest image [] v holds = holds
 on_holds sh rest image (before ∷ images) v grows = grows.0
 
@@ -119,9 +126,11 @@ pub record Joined (sh : Shape) (images rest : List Units) (v u : View) (s : Turn
   pub turn : Turn
   pub both : Lives sh (images ++ rest) v turn
   pub says : TurnSays turn b v
-  pub split : (w : View) (a : Turn) → Lived sh (images ++ rest) v turn both w a → ((image : Units) × Among images image × Holds sh image w) ⊎ Lived sh rest u s lives w a
+  pub split : (w : View) (a : Turn)
+      → Lived sh (images ++ rest) v turn both w a → ((image : Units) × Among images image × Holds sh image w) ⊎ Lived sh rest u s lives w a
 
-module _ (sh : Shape) (rest : List Units) (u0 : View) (s0 : Turn) (lives : Lives sh rest u0 s0) (start : Units) (w : View) (at_start : Holds sh start w)
+module _ (sh : Shape)
+    (rest : List Units) (u0 : View) (s0 : Turn) (lives : Lives sh rest u0 s0) (start : Units) (w : View) (at_start : Holds sh start w)
     (shows : ShowsSettled rest start) (same : w.checkpoint.content ≡ u0.checkpoint.content) where
   join_start : (image : Units) (v : View) → Holds sh image v → image ≡ start → Joined sh (image ∷ []) rest v u0 s0 lives (boot_of w)
   join_start image v holds is = record {
@@ -137,8 +146,10 @@ module _ (sh : Shape) (rest : List Units) (u0 : View) (s0 : Turn) (lives : Lives
       one : v ≡ w
       one = one_view sh start v w (rw is at holds) at_start
 
-  join_awake : (image before : Units) (images : List Units) (v u : View) → Holds sh image v → AllInHistory ((before ∷ images) ++ rest) image v → GoesOn ((before ∷ images) ++ rest) u v → boot_of w < boot_of v → (both : Lives sh ((before ∷ images) ++ rest) u Awake)
-      → ((x : View) (a : Turn) → Lived sh ((before ∷ images) ++ rest) u Awake both x a → ((i : Units) × Among (before ∷ images) i × Holds sh i x) ⊎ Lived sh rest u0 s0 lives x a)
+  join_awake : (image before : Units) (images : List Units) (v u : View) → Holds sh image v → AllInHistory ((before ∷ images) ++ rest)
+      image v → GoesOn ((before ∷ images) ++ rest) u v → boot_of w < boot_of v → (both : Lives sh ((before ∷ images) ++ rest) u Awake)
+      → ((x : View) (a : Turn) → Lived sh ((before ∷ images) ++ rest) u Awake both x a
+      → ((i : Units) × Among (before ∷ images) i × Holds sh i x) ⊎ Lived sh rest u0 s0 lives x a)
       → Joined sh (image ∷ before ∷ images) rest v u0 s0 lives (boot_of w)
   join_awake image before images v u holds history next above both split = record {
     turn = Awake;
@@ -151,7 +162,8 @@ module _ (sh : Shape) (rest : List Units) (u0 : View) (s0 : Turn) (lives : Lives
   }
 
   join_asleep : (image before : Units) (images : List Units) (v u : View) → Holds sh image v → AllInHistory ((before ∷ images) ++ rest) image v → (v ≡ u) ⊎ ((d : Content) × IsBoot u d × (v ≡ booted u d)) → boot_of u ≡ boot_of w → (both : Lives sh ((before ∷ images) ++ rest) u Asleep)
-      → ((x : View) (a : Turn) → Lived sh ((before ∷ images) ++ rest) u Asleep both x a → ((i : Units) × Among (before ∷ images) i × Holds sh i x) ⊎ Lived sh rest u0 s0 lives x a)
+      → ((x : View) (a : Turn) → Lived sh ((before ∷ images) ++ rest) u Asleep both x a
+      → ((i : Units) × Among (before ∷ images) i × Holds sh i x) ⊎ Lived sh rest u0 s0 lives x a)
       → Joined sh (image ∷ before ∷ images) rest v u0 s0 lives (boot_of w)
   join_asleep image before images v u holds history (inl stays) boot both split = record {
     turn = Asleep;
@@ -172,17 +184,20 @@ module _ (sh : Shape) (rest : List Units) (u0 : View) (s0 : Turn) (lives : Lives
     ];
   }
 
-  pub join : (images : List Units) (v : View) → GrowsOn sh rest images v → EndsWith images start → StaysBare sh (boot_of w) images → Joined sh images rest v u0 s0 lives (boot_of w)
+  pub join : (images : List Units) (v : View)
+      → GrowsOn sh rest images v → EndsWith images start → StaysBare sh (boot_of w) images → Joined sh images rest v u0 s0 lives (boot_of w)
   join [] v grows ends stays = absurd grows
   join (image ∷ []) v holds ends stays = join_start image v holds ends
-  join (image ∷ before ∷ images) v (holds, history, (u, next, grows)) ends stays =
-      go (join (before ∷ images) u grows ends stays.1)
+  join (image ∷ before ∷ images) v (holds, history, (u, next, grows)) ends stays = go (join (before ∷ images) u grows ends stays.1)
     where
       by_turn : (t : Turn) (both : Lives sh ((before ∷ images) ++ rest) u t) → TurnSays t (boot_of w) u
-          → ((x : View) (a : Turn) → Lived sh ((before ∷ images) ++ rest) u t both x a → ((i : Units) × Among (before ∷ images) i × Holds sh i x) ⊎ Lived sh rest u0 s0 lives x a)
+          → ((x : View) (a : Turn) → Lived sh ((before ∷ images) ++ rest) u t both x a
+          → ((i : Units) × Among (before ∷ images) i × Holds sh i x) ⊎ Lived sh rest u0 s0 lives x a)
           → Joined sh (image ∷ before ∷ images) rest v u0 s0 lives (boot_of w)
-      by_turn Awake both says split = join_awake image before images v u holds history next (omega (arith, says, (next_grew sh u v (on_holds sh rest before images u grows).bears.sound next.next).boot)) both split
-      by_turn Asleep both says split = join_asleep image before images v u holds history (next_bare u v next.next (stays.0 u v (on_holds sh rest before images u grows) holds says)) says both split
+      by_turn Awake both says split = join_awake image before images v u holds history
+          next (omega (arith, says, (next_grew sh u v (on_holds sh rest before images u grows).bears.sound next.next).boot)) both split
+      by_turn Asleep both says split = join_asleep image before images
+          v u holds history (next_bare u v next.next (stays.0 u v (on_holds sh rest before images u grows) holds says)) says both split
 
       go : Joined sh (before ∷ images) rest u u0 s0 lives (boot_of w) → Joined sh (image ∷ before ∷ images) rest v u0 s0 lives (boot_of w)
       go j = by_turn j.turn j.both j.says j.split

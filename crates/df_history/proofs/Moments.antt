@@ -22,7 +22,8 @@ ends_among (i ∷ j ∷ images) start ends = inr (ends_among (j ∷ images) star
 pub start_among : (log : UnitLog) → Among (settled log) log.start
 start_among log = ends_among (settled log) log.start (settled_ends log.start log.events)
 
-pub made_choice : (c : Content) (images : List Units) → AreMade c images → (i : Units) → Among images i → (sh : Shape) (v : View) → Holds sh i v → ⊥
+pub made_choice : (c : Content) (images : List Units)
+    → AreMade c images → (i : Units) → Among images i → (sh : Shape) (v : View) → Holds sh i v → ⊥
 made_choice c [] made i among sh v holds = made
 made_choice c (image ∷ images) made i (inl is) sh v holds = no_choice c image images made v.checkpoint.content (rw is at holds).chosen.agreed
 made_choice c (image ∷ []) made i (inr none) sh v holds = none
@@ -40,7 +41,8 @@ grown_one sh log v holds (inr (c, made)) = absurd (made_choice c (settled log) m
 
 -- each prepare that is shown now, or is being written, was settled by the same log
 abbrev pub IsStill : UnitLog → Type 0
-IsStill log = (s : ℕ) (x : AnyUnit) → (now log (PreparePlace s) ≡ Some x) ⊎ InWrites log.events (PreparePlace s) x → InImages (settled log) (PreparePlace s) x
+IsStill log = (s : ℕ) (x : AnyUnit)
+    → (now log (PreparePlace s) ≡ Some x) ⊎ InWrites log.events (PreparePlace s) x → InImages (settled log) (PreparePlace s) x
 
 pub rests_still : (sh : Shape) (log : UnitLog) (v : View) → RestsOn sh log v → IsStill log
 rests_still sh log v rests s x (inl shown) = elim (rests.pooled (PreparePlace s) x shown) [
@@ -54,7 +56,8 @@ abbrev pub PutsNone : Units → Type 0
 PutsNone put = (s : ℕ) → put (PreparePlace s) ≡ None
 
 still_put : (log : UnitLog) (put : Units) → PutsNone put → IsStill log → IsStill (wrote put log)
-still_put log put none still s x (inl shown) = still s x (inl (ap (λ (o : Option AnyUnit). or_else o (now log (PreparePlace s))) (sym (none s)) ∙ shown))
+still_put log put none still s x (inl shown) =
+    still s x (inl (ap (λ (o : Option AnyUnit). or_else o (now log (PreparePlace s))) (sym (none s)) ∙ shown))
 still_put log put none still s x (inr (inl new)) = absurd (let both : None ≡ Some x = sym (none s) ∙ new in cc)
 still_put log put none still s x (inr (inr old)) = still s x (inr old)
 
@@ -72,7 +75,8 @@ still_stop log image s x (inl shown) = inl shown
 still_stop log image s x (inr none) = absurd none
 
 still_left : (log : UnitLog) (image : Units) → IsStill log → NoChance log image → AreShown (settled log) image
-still_left log image still chance s x shown = elim (chance.pooled (PreparePlace s) x shown) [ inl old ↦ old | inr written ↦ still s x (inr written) ]
+still_left log image still chance s x shown =
+    elim (chance.pooled (PreparePlace s) x shown) [ inl old ↦ old | inr written ↦ still s x (inr written) ]
 
 none_one : (put : Units) (place : Place) (x : AnyUnit) → PutsOne put place x → (IsPrepare place → ⊥) → PutsNone put
 none_one put place x one away s = go (put (PreparePlace s)) refl
@@ -102,8 +106,10 @@ pub none_copies : (c : Content) (m n : ℕ) (ks : List (ℕ × Units)) → AllPu
 none_copies c m n [] all = tt
 none_copies c m n (k ∷ ks) all = (none_one k.1 (CopyPlace k.0) (CopyUnit c) all.0 (λ prepare. prepare), none_copies c m n ks all.3)
 
-pub none_mend : (table : ℕ → Header) (headers : List Units) (c : Content) (m n : ℕ) (ks : List (ℕ × Units)) → AllPutTable table headers → AllPutCopy c m n ks → AllPutNone (mend_steps headers ks)
-none_mend table headers c m n ks all copies = none_append (header_steps headers) (copy_steps ks) (none_headers table headers all) (none_copies c m n ks copies)
+pub none_mend : (table : ℕ → Header) (headers : List Units) (c : Content) (m n : ℕ) (ks : List (ℕ × Units))
+    → AllPutTable table headers → AllPutCopy c m n ks → AllPutNone (mend_steps headers ks)
+none_mend table headers c m n ks all copies =
+    none_append (header_steps headers) (copy_steps ks) (none_headers table headers all) (none_copies c m n ks copies)
 
 none_update : (c : Content) (puts : PutsCopies c) → AllPutNone (update_steps puts)
 none_update c puts = (
@@ -121,7 +127,8 @@ abbrev pub HeadHas : Shape → (View → Type 0) → List Units → Type 0
 HeadHas sh P [] = ⊥
 HeadHas sh P (i ∷ images) = (x : View) × P x × Holds sh i x
 
-module _ (sh : Shape) (before : UnitLog) (logs : List UnitLog) (lived : IsLived sh (before ∷ logs)) (b : ℕ) (P : View → Type 0) (bare : (x y : View) → P x → P y → boot_of x ≡ b → IsSameBare x y) where
+module _ (sh : Shape) (before : UnitLog) (logs : List UnitLog) (lived : IsLived sh (before ∷ logs))
+    (b : ℕ) (P : View → Type 0) (bare : (x y : View) → P x → P y → boot_of x ≡ b → IsSameBare x y) where
   pub record IsAsleep (log : UnitLog) : Type 0 where
     pub start : MayStart before logs log.start
     pub view : View
@@ -140,9 +147,7 @@ module _ (sh : Shape) (before : UnitLog) (logs : List UnitLog) (lived : IsLived 
   stays_more : (images : List Units) → StaysBare sh b images → HeadHas sh P images → (j : Units) → Has j → StaysBare sh b (j ∷ images)
   stays_more [] stays newest j has = absurd newest
   stays_more (i ∷ images) stays newest j has = (
-    (λ u v at_i at_j boot.
-        let u_is = one_view sh i newest.0 u newest.2 at_i in
-        let v_is = one_view sh j has.0 v has.2 at_j in
+    (λ u v at_i at_j boot. let u_is = one_view sh i newest.0 u newest.2 at_i in let v_is = one_view sh j has.0 v has.2 at_j in
         rw v_is at (rw u_is at (bare newest.0 has.0 newest.1 has.1 (ap boot_of u_is ∙ boot)))),
     stays,
   )
@@ -152,51 +157,49 @@ module _ (sh : Shape) (before : UnitLog) (logs : List UnitLog) (lived : IsLived 
       (record { start = is.start; view = is.view; holds = is.holds; newest = is.last; fair = (grown_one sh log is.view is.holds grown).fair; grows = is.grows; stays = rw (sym is.boot) at is.stays }, lived)
 
   -- while the boot is that of the start, the next image has the same bare view
-  bare_or_above : (images : List Units) (u : View) → GrowsOn sh (all_settled (before ∷ logs)) images u → HeadHas sh P images → (j : Units) → Has j → (v : View) → Holds sh j v → b ≤ boot_of u → (b < boot_of u) ⊎ IsSameBare u v
+  bare_or_above : (images : List Units) (u : View) → GrowsOn sh (all_settled (before ∷ logs)) images u
+      → HeadHas sh P images → (j : Units) → Has j → (v : View) → Holds sh j v → b ≤ boot_of u → (b < boot_of u) ⊎ IsSameBare u v
   bare_or_above [] u grows newest j has v holds low = absurd newest
   bare_or_above (i ∷ images) u grows newest j has v holds low = elim (cases_lt b (boot_of u)) [
     | inl above ↦ inl above
-    | inr not ↦
-        let u_is = one_view sh i newest.0 u newest.2 (on_holds sh (all_settled (before ∷ logs)) i images u grows) in
+    | inr not ↦ let u_is = one_view sh i newest.0 u newest.2 (on_holds sh (all_settled (before ∷ logs)) i images u grows) in
         let v_is = one_view sh j has.0 v has.2 holds in
         inr (rw v_is at (rw u_is at (bare newest.0 has.0 newest.1 has.1 (omega (arith, ap boot_of u_is)))))
   ]
 
-  asleep_more : (log : UnitLog) → IsAsleep log → (j : Units) → Has j → AreShown (settled log) j → (v : View) → Grows sh (j ∷ settled log) v → GrowsOn sh (all_settled (before ∷ logs)) (j ∷ settled log) v
-  asleep_more log is j has shown v grows =
-      let old = old_boots sh before logs log.start is.view lived is.start is.holds in
+  asleep_more : (log : UnitLog) → IsAsleep log → (j : Units) → Has j
+      → AreShown (settled log) j → (v : View) → Grows sh (j ∷ settled log) v → GrowsOn sh (all_settled (before ∷ logs)) (j ∷ settled log) v
+  asleep_more log is j has shown v grows = let old = old_boots sh before logs log.start is.view lived is.start is.holds in
       let low = among_low sh (all_settled (before ∷ logs)) (settled log) is.last is.grows log.start (start_among log) is.view is.holds in
-      grows_more sh (all_settled (before ∷ logs)) (settled log) b j is.last v is.grows grows (λ s p at. omega (arith, old s p at, is.boot)) (bare_or_above (settled log) is.last is.grows is.newest j has v grows.0 (omega (arith, low, is.boot))) (inr shown)
+      grows_more sh (all_settled (before ∷ logs)) (settled log) b j is.last v is.grows grows (λ s p at. omega (arith, old s p at, is.boot))
+      (bare_or_above (settled log) is.last is.grows is.newest j has v grows.0 (omega (arith, low, is.boot))) (inr shown)
 
   asleep_sync : (log : UnitLog) → IsAsleep log → Has (now log) → Grown sh (add Synced log) → IsAsleep (add Synced log)
-  asleep_sync log is has grown =
-      let g = grown_one sh (add Synced log) is.view is.holds grown in
-      record {
-        start = is.start;
-        view = is.view;
-        holds = is.holds;
-        boot = is.boot;
-        stays = stays_more (settled log) is.stays is.newest (now log) has;
-        newest = has;
-        last = g.view;
-        grows = asleep_more log is (now log) has (λ s x at. is.still s x (inl at)) g.view g.grows;
-        still = still_sync log is.still;
-      }
+  asleep_sync log is has grown = let g = grown_one sh (add Synced log) is.view is.holds grown in record {
+    start = is.start;
+    view = is.view;
+    holds = is.holds;
+    boot = is.boot;
+    stays = stays_more (settled log) is.stays is.newest (now log) has;
+    newest = has;
+    last = g.view;
+    grows = asleep_more log is (now log) has (λ s x at. is.still s x (inl at)) g.view g.grows;
+    still = still_sync log is.still;
+  }
 
-  asleep_stop : (log : UnitLog) → IsAsleep log → (image : Units) → Has image → NoChance log image → Grown sh (add (Stopped image) log) → IsAsleep (add (Stopped image) log)
-  asleep_stop log is image has chance grown =
-      let g = grown_one sh (add (Stopped image) log) is.view is.holds grown in
-      record {
-        start = is.start;
-        view = is.view;
-        holds = is.holds;
-        boot = is.boot;
-        stays = stays_more (settled log) is.stays is.newest image has;
-        newest = has;
-        last = g.view;
-        grows = asleep_more log is image has (still_left log image is.still chance) g.view g.grows;
-        still = still_stop log image;
-      }
+  asleep_stop : (log : UnitLog) → IsAsleep log
+      → (image : Units) → Has image → NoChance log image → Grown sh (add (Stopped image) log) → IsAsleep (add (Stopped image) log)
+  asleep_stop log is image has chance grown = let g = grown_one sh (add (Stopped image) log) is.view is.holds grown in record {
+    start = is.start;
+    view = is.view;
+    holds = is.holds;
+    boot = is.boot;
+    stays = stays_more (settled log) is.stays is.newest image has;
+    newest = has;
+    last = g.view;
+    grows = asleep_more log is image has (still_left log image is.still chance) g.view g.grows;
+    still = still_stop log image;
+  }
 
   asleep_put : (log : UnitLog) → IsAsleep log → (put : Units) → PutsNone put → IsAsleep (wrote put log)
   asleep_put log is put none = record { start = is.start; view = is.view; holds = is.holds; boot = is.boot; stays = is.stays; newest = is.newest; last = is.last; grows = is.grows; still = still_put log put none is.still }
@@ -210,13 +213,17 @@ module _ (sh : Shape) (before : UnitLog) (logs : List UnitLog) (lived : IsLived 
   asleep_moment log is moment = record {
     lived = asleep_lived log is moment.safe.grown;
     synced = asleep_lived (add Synced log) (asleep_sync log is moment.has moment.safe.synced) moment.safe.synced;
-    stopped = λ image left chance. asleep_lived (add (Stopped image) log) (asleep_stop log is image (moment.left image left chance) chance (moment.safe.stopped image left chance)) (moment.safe.stopped image left chance);
+    stopped = λ image left chance. asleep_lived (add (Stopped image) log) (asleep_stop log
+        is image (moment.left image left chance) chance (moment.safe.stopped image left chance)) (moment.safe.stopped image left chance);
   }
 
-  pub asleep_steps : (ss : List Step) (log : UnitLog) → AllPutNone ss → IsAsleep log → AtEach IsAsleepMoment log ss → AtEach (IsLivedMoment sh (before ∷ logs)) log ss
+  pub asleep_steps : (ss : List Step) (log : UnitLog)
+      → AllPutNone ss → IsAsleep log → AtEach IsAsleepMoment log ss → AtEach (IsLivedMoment sh (before ∷ logs)) log ss
   asleep_steps [] log none is at = asleep_moment log is at
-  asleep_steps ((Puts put) ∷ ss) log none is at = (asleep_moment log is at.0, asleep_steps ss (wrote put log) none.1 (asleep_put log is put none.0) at.1)
-  asleep_steps (Syncs ∷ ss) log none is at = (asleep_moment log is at.0, asleep_steps ss (add Synced log) none (asleep_sync log is at.0.has at.0.safe.synced) at.1)
+  asleep_steps ((Puts put) ∷ ss) log none is at =
+      (asleep_moment log is at.0, asleep_steps ss (wrote put log) none.1 (asleep_put log is put none.0) at.1)
+  asleep_steps (Syncs ∷ ss) log none is at =
+      (asleep_moment log is at.0, asleep_steps ss (add Synced log) none (asleep_sync log is at.0.has at.0.safe.synced) at.1)
 
 -- ---- the start
 
@@ -228,7 +235,8 @@ begins_law sh log logs shown w lived may places f =
     let clean = (choice_stays_law sh log logs shown w.checkpoint.content lived may f.chosen).clean w refl in
     let rests = clean_start_law sh shown w places f clean in (
       rests,
-      asleep_moment sh log logs lived (boot_of w) (λ x. x ≡ w) (λ x y is_x is_y boot. one_bare w x y is_x is_y) (record { start = shown; events = [] })
+      asleep_moment sh log logs lived (boot_of w) (λ x.
+          x ≡ w) (λ x y is_x is_y boot. one_bare w x y is_x is_y) (record { start = shown; events = [] })
           (record { start = may; view = w; holds = rests.holds; boot = refl; stays = tt; newest = (w, refl, rests.holds); last = w; grows = rests.holds; still = λ s x at. elim at [ inl shown ↦ inl shown | inr none ↦ absurd none ] })
           (record { safe = rests_safe sh (record { start = shown; events = [] }) w rests; left = λ image left chance. (w, refl, rests_holds sh (record { start = shown; events = [] }) w rests image left chance); has = (w, refl, rests.holds) }),
     )
@@ -240,7 +248,8 @@ grows_head sh P [] v grows is = grows
 grows_head sh P (i ∷ images) v grows is = (v, is, grows.0)
 
 -- a log of a lived history that rests on a view
-pub rests_asleep : (sh : Shape) (log before : UnitLog) (logs : List UnitLog) (lived : IsLived sh (log ∷ before ∷ logs)) (P : View → Type 0) (bare : (x y : View) → P x → P y → boot_of x ≡ boot_of lived.0.view → IsSameBare x y) (w : View)
+pub rests_asleep : (sh : Shape) (log before : UnitLog) (logs : List UnitLog) (lived : IsLived sh (log ∷ before ∷ logs))
+    (P : View → Type 0) (bare : (x y : View) → P x → P y → boot_of x ≡ boot_of lived.0.view → IsSameBare x y) (w : View)
     → RestsOn sh log w → P w → IsAsleep sh before logs lived.1 (boot_of lived.0.view) P bare log
 rests_asleep sh log before logs lived P bare w rests is = record { start = lived.0.start; view = lived.0.view; holds = lived.0.holds; boot = refl; stays = lived.0.stays; newest = grows_head sh P (settled log) w rests.grows is; last = lived.0.newest; grows = lived.0.grows; still = rests_still sh log w rests }
 
@@ -250,23 +259,25 @@ last_is sh rest [] x y one two = absurd one
 last_is sh rest (i ∷ images) x y one two = one_view sh i x y (on_holds sh rest i images x one) two.0
 
 pub boot_lived_law : BootLivedLaw
-boot_lived_law sh log before logs w d puts lived rests dry may copies =
-    let law = boot_law sh log w d puts rests dry may copies in
+boot_lived_law sh log before logs w d puts lived rests dry may copies = let law = boot_law sh log w d puts rests dry may copies in
     let up = law.0 in
     let start_low : boot_of lived.0.view ≤ boot_of w = omega (arith, among_low sh (all_settled (before ∷ logs)) (settled log) lived.0.newest lived.0.grows log.start (start_among log) lived.0.view lived.0.holds, ap boot_of (last_is sh (all_settled (before ∷ logs)) (settled log) lived.0.newest w lived.0.grows rests.grows)) in
-    let bare : (x y : View) → (x ≡ w) ⊎ (x ≡ booted w d) → (y ≡ w) ⊎ (y ≡ booted w d) → boot_of x ≡ boot_of lived.0.view → IsSameBare x y = two_bare law.1 start_low in
-    let old : (l : UnitLog) → IsGoodLog sh w w l → Holds sh (now l) w → IsAsleepMoment sh before logs lived.1 (boot_of lived.0.view) (λ x. (x ≡ w) ⊎ (x ≡ booted w d)) bare l =
+    let bare : (x y : View) → (x ≡ w) ⊎ (x ≡ booted w d)
+    → (y ≡ w) ⊎ (y ≡ booted w d) → boot_of x ≡ boot_of lived.0.view → IsSameBare x y = two_bare law.1 start_low in
+    let old : (l : UnitLog) → IsGoodLog sh w w l
+    → Holds sh (now l) w → IsAsleepMoment sh before logs lived.1 (boot_of lived.0.view) (λ x. (x ≡ w) ⊎ (x ≡ booted w d)) bare l =
     λ l good holds. record { safe = good.safe; left = λ image left chance. elim (good.left image left chance) [ inl is ↦ (w, inl refl, is) | inr is ↦ (w, inl refl, is) ]; has = (w, inl refl, holds) } in
-    let mid : (l : UnitLog) → IsGoodLog sh w (booted w d) l → Holds sh (now l) (booted w d) → IsAsleepMoment sh before logs lived.1 (boot_of lived.0.view) (λ x. (x ≡ w) ⊎ (x ≡ booted w d)) bare l =
+    let mid : (l : UnitLog) → IsGoodLog sh w (booted w d) l → Holds sh (now l) (booted w d)
+    → IsAsleepMoment sh before logs lived.1 (boot_of lived.0.view) (λ x. (x ≡ w) ⊎ (x ≡ booted w d)) bare l =
     λ l good holds. record { safe = good.safe; left = λ image left chance. elim (good.left image left chance) [ inl is ↦ (w, inl refl, is) | inr is ↦ (booted w d, inr refl, is) ]; has = (booted w d, inr refl, holds) } in
-    let new : (l : UnitLog) → IsGoodLog sh (booted w d) (booted w d) l → Holds sh (now l) (booted w d) → IsAsleepMoment sh before logs lived.1 (boot_of lived.0.view) (λ x. (x ≡ w) ⊎ (x ≡ booted w d)) bare l =
+    let new : (l : UnitLog) → IsGoodLog sh (booted w d) (booted w d) l → Holds sh (now l) (booted w d)
+    → IsAsleepMoment sh before logs lived.1 (boot_of lived.0.view) (λ x. (x ≡ w) ⊎ (x ≡ booted w d)) bare l =
     λ l good holds. record { safe = good.safe; left = λ image left chance. elim (good.left image left chance) [ inl is ↦ (booted w d, inr refl, is) | inr is ↦ (booted w d, inr refl, is) ]; has = (booted w d, inr refl, holds) } in
-    let at : (l : UnitLog) (v : View) → RestsOn sh l v → IsGoodLog sh v v l = λ l v rest. record { safe = rests_safe sh l v rest; left = λ image left chance. inl (rests_holds sh l v rest image left chance) } in
-    let l0 : UnitLog = wrote puts.put0 log in
-    let l1 : UnitLog = wrote puts.put1 (add Synced l0) in
-    let l2 : UnitLog = wrote puts.put2 (add Synced l1) in
-    let l3 : UnitLog = wrote puts.put3 (add Synced l2) in
-    let moments : AtEach (IsAsleepMoment sh before logs lived.1 (boot_of lived.0.view) (λ x. (x ≡ w) ⊎ (x ≡ booted w d)) bare) log (update_steps puts) = (
+    let at : (l : UnitLog) (v : View) → RestsOn sh l v → IsGoodLog sh v v l =
+    λ l v rest. record { safe = rests_safe sh l v rest; left = λ image left chance. inl (rests_holds sh l v rest image left chance) } in
+    let l0 : UnitLog = wrote puts.put0 log in let l1 : UnitLog = wrote puts.put1 (add Synced l0) in
+    let l2 : UnitLog = wrote puts.put2 (add Synced l1) in let l3 : UnitLog = wrote puts.put3 (add Synced l2) in let moments : AtEach
+    (IsAsleepMoment sh before logs lived.1 (boot_of lived.0.view) (λ x. (x ≡ w) ⊎ (x ≡ booted w d)) bare) log (update_steps puts) = (
       old log (at log w rests) rests.holds,
       (
         old l0 up.first.good up.first.rests.holds,
@@ -290,7 +301,8 @@ boot_lived_law sh log before logs w d puts lived rests dry may copies =
     ) in
     (asleep_steps sh before logs lived.1 (boot_of lived.0.view) (λ x. (x ≡ w) ⊎ (x ≡ booted w d)) bare (update_steps puts) log (none_update d puts) (rests_asleep sh log before logs lived (λ x. (x ≡ w) ⊎ (x ≡ booted w d)) bare w rests (inl refl)) moments, up.leads.rests, law.1)
   where
-    two_bare : IsSameBare w (booted w d) → boot_of lived.0.view ≤ boot_of w → (x y : View) → (x ≡ w) ⊎ (x ≡ booted w d) → (y ≡ w) ⊎ (y ≡ booted w d) → boot_of x ≡ boot_of lived.0.view → IsSameBare x y
+    two_bare : IsSameBare w (booted w d) → boot_of lived.0.view ≤ boot_of w
+        → (x y : View) → (x ≡ w) ⊎ (x ≡ booted w d) → (y ≡ w) ⊎ (y ≡ booted w d) → boot_of x ≡ boot_of lived.0.view → IsSameBare x y
     two_bare same low x y (inl is_x) (inl is_y) boot = one_bare w x y is_x is_y
     two_bare same low x y (inl is_x) (inr is_y) boot = subst (λ (z : View). IsSameBare z y) (sym is_x) (rw (sym is_y) at same)
     two_bare same low x y (inr is_x) other boot = absurd (omega (arith, ap boot_of is_x, may.is.boot))
@@ -299,15 +311,18 @@ boot_lived_law sh log before logs w d puts lived rests dry may copies =
 
 pub rest_lived_law : RestLivedLaw
 rest_lived_law sh log before logs v lived rests =
-    asleep_moment sh before logs lived.1 (boot_of lived.0.view) (λ x. x ≡ v) (λ x y is_x is_y boot. one_bare v x y is_x is_y) log (rests_asleep sh log before logs lived (λ x. x ≡ v) (λ x y is_x is_y boot. one_bare v x y is_x is_y) v rests refl)
+    asleep_moment sh before logs lived.1 (boot_of lived.0.view) (λ x. x ≡ v) (λ x y is_x is_y boot. one_bare v x y is_x is_y)
+    log (rests_asleep sh log before logs lived (λ x. x ≡ v) (λ x y is_x is_y boot. one_bare v x y is_x is_y) v rests refl)
     (record { safe = rests_safe sh log v rests; left = λ image left chance. (v, refl, rests_holds sh log v rests image left chance); has = (v, refl, rests.holds) })
 
 -- ---- the first log
 
-first_of_grown : (sh : Shape) (log : UnitLog) (start : Units) → log.start ≡ start → Grown sh log → ((place : Place) → start place ≡ None) ⊎ ((w : View) × Holds sh start w × Starts start [] w) → IsFirstLog sh log
+first_of_grown : (sh : Shape) (log : UnitLog) (start : Units) → log.start ≡ start
+    → Grown sh log → ((place : Place) → start place ≡ None) ⊎ ((w : View) × Holds sh start w × Starts start [] w) → IsFirstLog sh log
 first_of_grown sh log start is grown (inl blank) = inl (grown, λ place. ap (λ (i : Units). i place) is ∙ blank place)
 first_of_grown sh log start is (inl grown) (inr (w, holds, starts)) = inr (w, grown.0, rw (sym is) at holds, rw (sym is) at starts, grown.1)
-first_of_grown sh log start is (inr (c, made)) (inr (w, holds, starts)) = absurd (made_choice c (settled log) made.made log.start (start_among log) sh w (rw (sym is) at holds))
+first_of_grown sh log start is (inr (c, made)) (inr (w, holds, starts)) =
+    absurd (made_choice c (settled log) made.made log.start (start_among log) sh w (rw (sym is) at holds))
 
 pub first_grown_law : FirstGrownLaw
 first_grown_law sh log grown start = first_of_grown sh log log.start refl grown start

@@ -20,23 +20,27 @@ left : IsLeftBy half image
 left = left_without (PreparePlace 1) half refl
 
 half_ours : All IsOurs half.start half.events
-half_ours = put_all IsOurs (PreparePlace 2) (PrepareUnit survivor) (wrote (prepare_put lost) booted1) (refl, refl) (put_all IsOurs (PreparePlace 1) (PrepareUnit lost) booted1 (refl, refl) booted1_ours)
+half_ours = put_all IsOurs (PreparePlace 2) (PrepareUnit survivor)
+    (wrote (prepare_put lost) booted1) (refl, refl) (put_all IsOurs (PreparePlace 1) (PrepareUnit lost) booted1 (refl, refl) booted1_ours)
 
 chance : NoChance half image
 chance = no_chance IsOurs distinct half half_ours image
-    (λ place x is. wrote_pooled (prepare_put survivor) (wrote (prepare_put lost) booted1) (wrote_pooled (prepare_put lost) booted1 opened1.0.pooled) place x (without_shows (PreparePlace 1) place (now half) x is))
+    (λ place x is. wrote_pooled (prepare_put survivor) (wrote (prepare_put lost) booted1)
+    (wrote_pooled (prepare_put lost) booted1 opened1.0.pooled) place x (without_shows (PreparePlace 1) place (now half) x is))
 
 held : Holds shape image (first 1)
 held = elim (halves.1.1.left image left chance) [
   | inl before ↦ before
-  | inr after ↦ absurd (let gone : None ≡ Some (PrepareUnit lost) = after.bears.needs (PreparePlace 1) (PrepareUnit lost) (lost, inl refl, refl, refl) in cc)
+  | inr after ↦ absurd
+      (let gone : None ≡ Some (PrepareUnit lost) = after.bears.needs (PreparePlace 1) (PrepareUnit lost) (lost, inl refl, refl, refl) in cc)
 ]
 
 abbrev stopped : UnitLog
 stopped = add (Stopped image) half
 
 lived_stopped : IsLived shape (stopped ∷ made ∷ [])
-lived_stopped = (opened1.1 puts (each_weaker (IsGoodLog shape (first 1) (appended (first 1) (lost ∷ survivor ∷ []))) (IsSafe shape) (λ l good. good.safe) puts booted1 halves)).1.1.stopped image left chance
+lived_stopped = (opened1.1 puts (each_weaker (IsGoodLog shape (first 1) (appended (first 1) (lost ∷ survivor ∷ [])))
+    (IsSafe shape) (λ l good. good.safe) puts booted1 halves)).1.1.stopped image left chance
 
 stopped_ours : All IsOurs stopped.start stopped.events
 stopped_ours = (λ place x is. now_all IsOurs half.start half.events half_ours place x (without_shows (PreparePlace 1) place (now half) x is), half_ours)
@@ -47,23 +51,22 @@ places3 : AreOfPlaces shape image
 places3 = of_places image (first 1) held stopped_ours.0 (λ s. refl) (λ k. refl) (λ a. refl)
 
 start3 : MayStart stopped (made ∷ []) image
-start3 = starts stopped (made ∷ []) image (stopped_ours, (made_ours, tt)) (stopped_settled half image) (λ place x is. inl (inl (inl is))) (inl (λ n below. refl))
+start3 = starts stopped (made ∷ []) image (stopped_ours, (made_ours, tt)) (stopped_settled half image) (λ place x is.
+    inl (inl (inl is))) (inl (λ n below. refl))
 
 abbrev booted3 : UnitLog
 booted3 = booted_of 1 image
 
-opened3 : RestsOn shape booted3 (first 2) × ((ss : List Step) → AtEach (IsSafe shape) booted3 ss → AtEach (IsLivedMoment shape (stopped ∷ made ∷ [])) booted3 ss)
-opened3 =
-    let all = opens 1 (omega arith) image held (copies_are (content 1) image refl refl refl refl) (λ s. refl) stopped (made ∷ []) lived_stopped start3 places3 in
-    (all.1, all.2)
+opened3 : RestsOn shape booted3 (first 2)
+    × ((ss : List Step) → AtEach (IsSafe shape) booted3 ss → AtEach (IsLivedMoment shape (stopped ∷ made ∷ [])) booted3 ss)
+opened3 = let all = opens 1 (omega arith) image held (copies_are (content 1) image refl refl refl refl) (λ s.
+    refl) stopped (made ∷ []) lived_stopped start3 places3 in (all.1, all.2)
 
 -- ---- and the ops of the group are written anew
 
 clear3 : IsClear (settled booted3) (first 2)
-clear3 = clear_of 2 image (λ s p is own.
-    let a = held.bears.agrees (PreparePlace s) (PrepareUnit p) is in
-    let same : a.0 ≡ p = (let e = a.1 in cc) in
-    absurd (omega (arith, a.2.boot, ap (λ (w : Message). w.header.boot) same, own)))
+clear3 = clear_of 2 image (λ s p is own. let a = held.bears.agrees (PreparePlace s) (PrepareUnit p) is in
+    let same : a.0 ≡ p = (let e = a.1 in cc) in absurd (omega (arith, a.2.boot, ap (λ (w : Message). w.header.boot) same, own)))
 
 abbrev prepares : List Units
 prepares = prepare_put anew_last ∷ prepare_put anew ∷ []
@@ -95,21 +98,22 @@ flushes = flush_law shape booted3 (first 2) (anew ∷ anew_last ∷ []) (anew_la
 
 lived3 : IsLived shape (again ∷ stopped ∷ made ∷ [])
 lived3 = (each_last (IsLivedMoment shape (stopped ∷ made ∷ [])) (flush_steps prepares headers) booted3
-    (opened3.1 (flush_steps prepares headers) (each_weaker (IsGoodLog shape (first 2) kept3) (IsSafe shape) (λ l good. good.safe) (flush_steps prepares headers) booted3 flushes.leads.moments))).lived
+    (opened3.1 (flush_steps prepares headers) (each_weaker (IsGoodLog shape (first 2) kept3) (IsSafe shape) (λ l good.
+    good.safe) (flush_steps prepares headers) booted3 flushes.leads.moments))).lived
 
 -- ---- whose every trace is lost: the survivor is shown again
 
 again_ours : All IsOurs again.start again.events
-again_ours =
-    let l0 : UnitLog = wrote (prepare_put anew_last) booted3 in
-    let l1 : UnitLog = wrote (prepare_put anew) l0 in
+again_ours = let l0 : UnitLog = wrote (prepare_put anew_last) booted3 in let l1 : UnitLog = wrote (prepare_put anew) l0 in
     let l2 : UnitLog = wrote (header_put anew) (add Synced l1) in
-    let a0 : All IsOurs l0.start l0.events = put_all IsOurs (PreparePlace 2) (PrepareUnit anew_last) booted3 (refl, refl) (copies_all IsOurs (content 2) (refl, omega arith) (record { start = image; events = [] }) stopped_ours.0) in
-    let a1 : All IsOurs l1.start l1.events = put_all IsOurs (PreparePlace 1) (PrepareUnit anew) l0 (refl, refl) a0 in
-    put_all IsOurs (HeaderPlace 2) (HeaderUnit anew_last.header) l2 refl (put_all IsOurs (HeaderPlace 1) (HeaderUnit anew.header) (add Synced l1) refl a1)
+    let a0 : All IsOurs l0.start l0.events = put_all IsOurs (PreparePlace 2) (PrepareUnit anew_last)
+    booted3 (refl, refl) (copies_all IsOurs (content 2) (refl, omega arith) (record { start = image; events = [] }) stopped_ours.0) in
+    let a1 : All IsOurs l1.start l1.events = put_all IsOurs (PreparePlace 1) (PrepareUnit anew) l0 (refl, refl) a0 in put_all IsOurs
+    (HeaderPlace 2) (HeaderUnit anew_last.header) l2 refl (put_all IsOurs (HeaderPlace 1) (HeaderUnit anew.header) (add Synced l1) refl a1)
 
 start4 : MayStart again (stopped ∷ made ∷ []) (now booted3)
-start4 = starts again (stopped ∷ made ∷ []) (now booted3) (again_ours, (stopped_ours, (made_ours, tt))) (synced_settled written3) (λ place x is. inl (inl (inr (inr (inl is))))) (inl (λ n below. refl))
+start4 = starts again (stopped ∷ made ∷ []) (now booted3) (again_ours, (stopped_ours, (made_ours, tt)))
+    (synced_settled written3) (λ place x is. inl (inl (inr (inr (inl is))))) (inl (λ n below. refl))
 
 found4 : IsFound shape (now booted3) (first 2)
 found4 = holds_found shape (now booted3) (first 2) opened3.0.holds

@@ -52,10 +52,12 @@ abbrev pub anew_last : Message
 anew_last = grouped 44 43 8 2 2
 
 abbrev prepare_with : ℕ → Message
-prepare_with n = if n == 41 then lost else (if n == 42 then survivor else (if n == 43 then anew else (if n == 44 then anew_last else (if n == 6 then renewed else prepare))))
+prepare_with n = if n == 41 then lost
+    else (if n == 42 then survivor else (if n == 43 then anew else (if n == 44 then anew_last else (if n == 6 then renewed else prepare))))
 
 abbrev header_with : ℕ → Header
-header_with n = if n == 41 then lost.header else (if n == 42 then survivor.header else (if n == 43 then anew.header else (if n == 44 then anew_last.header else (if n == 6 then renewed.header else (if n == 5 then prepare.header else reserved)))))
+header_with n = if n == 41 then lost.header else (if n == 42 then survivor.header else (if n == 43 then anew.header
+    else (if n == 44 then anew_last.header else (if n == 6 then renewed.header else (if n == 5 then prepare.header else reserved)))))
 
 abbrev pub IsOurs : AnyUnit → Type 0
 IsOurs (CopyUnit c) = (c ≡ content_with c.checksum) × (c.checksum < 9)
@@ -88,17 +90,21 @@ pools_ours (log ∷ logs) ours place x (inr older) = pools_ours logs ours.1 plac
 
 -- where such units may stand
 pub in_range : (n : ℕ) → IsInRange (prepare_with n).header
-in_range n =
-    pick (n == 41) lost (if n == 42 then survivor else (if n == 43 then anew else (if n == 44 then anew_last else (if n == 6 then renewed else prepare)))) (range 41 0 7 1 1 (omega arith, omega arith, omega arith, omega arith, omega arith, omega arith))
-    (pick (n == 42) survivor (if n == 43 then anew else (if n == 44 then anew_last else (if n == 6 then renewed else prepare))) (range 42 41 8 2 1 (omega arith, omega arith, omega arith, omega arith, omega arith, omega arith))
-    (pick (n == 43) anew (if n == 44 then anew_last else (if n == 6 then renewed else prepare)) (range 43 0 7 1 2 (omega arith, omega arith, omega arith, omega arith, omega arith, omega arith))
-    (pick (n == 44) anew_last (if n == 6 then renewed else prepare) (range 44 43 8 2 2 (omega arith, omega arith, omega arith, omega arith, omega arith, omega arith)) (pick (n == 6) renewed prepare own_renewed own))))
+in_range n = pick (n == 41) lost (if n == 42 then survivor else (if n == 43 then anew else (if n == 44 then anew_last else (if
+    n == 6 then renewed else prepare)))) (range 41 0 7 1 1 (omega arith, omega arith, omega arith, omega arith, omega arith, omega arith))
+    (pick (n == 42) survivor (if n == 43 then anew else (if n == 44 then anew_last else (if n == 6 then renewed else prepare)))
+    (range 42 41 8 2 1 (omega arith, omega arith, omega arith, omega arith, omega arith, omega arith))
+    (pick (n == 43) anew (if n == 44 then anew_last else (if n == 6 then renewed else prepare))
+    (range 43 0 7 1 2 (omega arith, omega arith, omega arith, omega arith, omega arith, omega arith))
+    (pick (n == 44) anew_last (if n == 6 then renewed else prepare) (range 44 43
+    8 2 2 (omega arith, omega arith, omega arith, omega arith, omega arith, omega arith)) (pick (n == 6) renewed prepare own_renewed own))))
   where
     pick : (b : Bool) (p q : Message) → IsInRange p.header → IsInRange q.header → IsInRange (if b then p else q).header
     pick true p q one two = one
     pick false p q one two = two
 
-    range : (sum parent client op boot : ℕ) → (sum < 50) × (parent < 50) × (0 < client) × (client < 50) × (0 < op) × (op < 50) → IsInRange (grouped sum parent client op boot).header
+    range : (sum parent client op boot : ℕ) → (sum < 50) × (parent < 50) × (0 < client) × (client < 50) × (0 < op) × (op < 50)
+        → IsInRange (grouped sum parent client op boot).header
     range sum parent client op boot small = record { client = (omega (arith, small), omega (arith, small)); request = (omega arith, omega arith); op = (omega (arith, small), omega (arith, small)); checksums = (omega (arith, small), omega (arith, small)) }
 
     own_renewed : IsInRange renewed.header
@@ -112,13 +118,13 @@ of_copy n x ours c is = (c, is, let low = (subst IsOurs is ours).1 in omega arit
 
 -- of an image with a view and nothing but such units, whose headers are reserved
 pub of_places :
-    (image : Units) (v : View) → Holds shape image v → Shows IsOurs image → ((s : ℕ) → image (HeaderPlace s) ≡ Some (HeaderUnit reserved)) → ((k : ℕ) → image (ReplyPlace k) ≡ None) → ((a : ℕ) → image (BlockPlace a) ≡ None)
-    → AreOfPlaces shape image
-of_places image v holds ours headers replies blocks (CopyPlace n) x is = let a = holds.bears.agrees (CopyPlace n) x is in of_copy n x (ours (CopyPlace n) x is) a.0 a.1
+    (image : Units) (v : View) → Holds shape image v → Shows IsOurs image → ((s : ℕ) → image (HeaderPlace s) ≡ Some (HeaderUnit reserved))
+    → ((k : ℕ) → image (ReplyPlace k) ≡ None) → ((a : ℕ) → image (BlockPlace a) ≡ None) → AreOfPlaces shape image
+of_places image v holds ours headers replies blocks (CopyPlace n) x is = let a = holds.bears.agrees (CopyPlace n) x is in
+    of_copy n x (ours (CopyPlace n) x is) a.0 a.1
 of_places image v holds ours headers replies blocks (HeaderPlace s) x is =
     (reserved, (let both : Some (HeaderUnit reserved) ≡ Some x = sym (headers s) ∙ is in let one : x ≡ HeaderUnit reserved = cc in one), omega arith, λ some. absurd (omega arith))
-of_places image v holds ours headers replies blocks (PreparePlace s) x is =
-    let a = holds.bears.agrees (PreparePlace s) x is in
+of_places image v holds ours headers replies blocks (PreparePlace s) x is = let a = holds.bears.agrees (PreparePlace s) x is in
     let own : IsOurs (PrepareUnit a.0) = subst IsOurs a.1 (ours (PreparePlace s) x is) in
     (a.0, a.1, a.2.slot, rw (sym own.0) at (in_range a.0.header.checksum))
 of_places image v holds ours headers replies blocks (ReplyPlace k) x is = absurd (let both : None ≡ Some x = sym (replies k) ∙ is in cc)
@@ -132,7 +138,8 @@ booted_of b image = after_steps (update_steps (copies_of (content (b + 1)))) (re
 
 -- an image of nothing but what was pooled in logs of such units
 pub starts :
-    (log : UnitLog) (logs : List UnitLog) (image : Units) → AreOurs (log ∷ logs) → IsSettled log → ((place : Place) (x : AnyUnit) → image place ≡ Some x → InHistoryPool (log ∷ logs) place x) → MayHurtCopies (now log) image
+    (log : UnitLog) (logs : List UnitLog) (image : Units) → AreOurs (log ∷ logs) → IsSettled log
+    → ((place : Place) (x : AnyUnit) → image place ≡ Some x → InHistoryPool (log ∷ logs) place x) → MayHurtCopies (now log) image
     → MayStart log logs image
 starts log logs image ours settled_is pooled copies = record {
   settled_is = settled_is;
@@ -140,7 +147,8 @@ starts log logs image ours settled_is pooled copies = record {
   copies = copies;
 }
 
-module _ (b : ℕ) (low : b < 8) (image : Units) (holds : Holds shape image (first b)) (copies : (n : ℕ) → n < 4 → image (CopyPlace n) ≡ Some (CopyUnit (content b)))
+module _ (b : ℕ) (low : b < 8)
+    (image : Units) (holds : Holds shape image (first b)) (copies : (n : ℕ) → n < 4 → image (CopyPlace n) ≡ Some (CopyUnit (content b)))
     (headers : (s : ℕ) → image (HeaderPlace s) ≡ Some (HeaderUnit reserved)) where
   pub opening : IsOpening shape image (first b) (λ s. reserved) [] [] (content (b + 1))
   opening = record {
@@ -160,18 +168,20 @@ module _ (b : ℕ) (low : b < 8) (image : Units) (holds : Holds shape image (fir
 
   pub opens :
       (log : UnitLog) (logs : List UnitLog) → IsLived shape (log ∷ logs) → MayStart log logs image → AreOfPlaces shape image
-      → AtEach (IsLivedMoment shape (log ∷ logs)) (record { start = image; events = [] }) (update_steps (copies_of (content (b + 1)))) × RestsOn shape (booted_of b image) (first (b + 1))
+      → AtEach (IsLivedMoment shape (log ∷ logs)) (record { start = image; events = [] }) (update_steps (copies_of (content (b + 1))))
+      × RestsOn shape (booted_of b image) (first (b + 1))
       × ((ss : List Step) → AtEach (IsSafe shape) (booted_of b image) ss → AtEach (IsLivedMoment shape (log ∷ logs)) (booted_of b image) ss)
   opens log logs lived may places =
-      let law = open_lived_law shape log logs image (first b) lived may places (holds_found shape image (first b) holds) (λ s. reserved) [] [] (content (b + 1)) (copies_of (content (b + 1))) opening in
-      (law.0, law.1, law.3)
+      let law = open_lived_law shape log logs image (first b) lived may places (holds_found shape image (first b) holds) (λ s.
+      reserved) [] [] (content (b + 1)) (copies_of (content (b + 1))) opening in (law.0, law.1, law.3)
 
 -- after it no prepare of the new boot was settled
 pub clear_of : (b : ℕ) (image : Units) → ((s : ℕ) (p : Message) → image (PreparePlace s) ≡ Some (PrepareUnit p) → p.header.boot ≡ b → p.header.op ≤ 0) → IsClear (settled (after_steps (update_steps (copies_of (content b))) (record { start = image; events = [] }))) (first b)
-clear_of b image low = (low_steps b 0 (update_steps (copies_of (content b))) (record { start = image; events = [] }) (low_update b 0 (content b) (copies_of (content b))) (record {
-  settled = λ s p at own. elim at [ inl here ↦ low s p here own | inr none ↦ absurd none ];
-  shown = low;
-})).settled
+clear_of b image low = (low_steps b 0 (update_steps (copies_of (content b)))
+    (record { start = image; events = [] }) (low_update b 0 (content b) (copies_of (content b))) (record {
+      settled = λ s p at own. elim at [ inl here ↦ low s p here own | inr none ↦ absurd none ];
+      shown = low;
+    })).settled
 
 -- ---- an append after it
 
@@ -179,13 +189,16 @@ abbrev pub append_steps : Message → List Step
 append_steps p = Puts (prepare_put p) ∷ Syncs ∷ Puts (header_put p) ∷ Syncs ∷ []
 
 pub appends_to :
-    (b : ℕ) (log : UnitLog) (p : Message) → RestsOn shape log (first b) → IsQuiet log → IsClear (settled log) (first b) → MayAppend shape (first b) (p ∷ [])
+    (b : ℕ) (log : UnitLog) (p : Message)
+    → RestsOn shape log (first b) → IsQuiet log → IsClear (settled log) (first b) → MayAppend shape (first b) (p ∷ [])
     → AppendsPrepare shape log (first b) (appended (first b) (p ∷ [])) (prepare_put p) (header_put p)
-appends_to b log p rests quiet clear may = append_law shape log (first b) p (prepare_put p) (header_put p) rests quiet clear may (put_one_law (PreparePlace (p.header.op % 16)) (PrepareUnit p)) (sector shape (now log) p)
+appends_to b log p rests quiet clear may = append_law shape log (first b) p (prepare_put p)
+    (header_put p) rests quiet clear may (put_one_law (PreparePlace (p.header.op % 16)) (PrepareUnit p)) (sector shape (now log) p)
 
-pub append_ours : (p : Message) (log : UnitLog) → IsOurs (PrepareUnit p) → All IsOurs log.start log.events → All IsOurs log.start (after_steps (append_steps p) log).events
-append_ours p log ours all =
-    put_all IsOurs (HeaderPlace (p.header.op % 16)) (HeaderUnit p.header) (add Synced (wrote (prepare_put p) log)) ours.1 (put_all IsOurs (PreparePlace (p.header.op % 16)) (PrepareUnit p) log ours all)
+pub append_ours : (p : Message) (log : UnitLog)
+    → IsOurs (PrepareUnit p) → All IsOurs log.start log.events → All IsOurs log.start (after_steps (append_steps p) log).events
+append_ours p log ours all = put_all IsOurs (HeaderPlace (p.header.op % 16)) (HeaderUnit p.header)
+    (add Synced (wrote (prepare_put p) log)) ours.1 (put_all IsOurs (PreparePlace (p.header.op % 16)) (PrepareUnit p) log ours all)
 
 -- ---- the first open
 
@@ -200,9 +213,10 @@ start1 = starts made [] (now made) (made_ours, tt)
 abbrev pub booted1 : UnitLog
 booted1 = booted_of 0 (now made)
 
-pub opened1 : RestsOn shape booted1 (first 1) × ((ss : List Step) → AtEach (IsSafe shape) booted1 ss → AtEach (IsLivedMoment shape (made ∷ [])) booted1 ss)
-opened1 =
-    let all = opens 0 (omega arith) (now made) tidy.rests.holds tidy.whole.copies (λ s. refl) made [] lived1 start1 (of_places (now made) (first 0) tidy.rests.holds (now_all IsOurs made.start made.events made_ours) (λ s. refl) (λ k. refl) (λ a. refl)) in
+pub opened1 : RestsOn shape booted1 (first 1)
+    × ((ss : List Step) → AtEach (IsSafe shape) booted1 ss → AtEach (IsLivedMoment shape (made ∷ [])) booted1 ss)
+opened1 = let all = opens 0 (omega arith) (now made) tidy.rests.holds tidy.whole.copies (λ s. refl) made [] lived1 start1 (of_places
+    (now made) (first 0) tidy.rests.holds (now_all IsOurs made.start made.events made_ours) (λ s. refl) (λ k. refl) (λ a. refl)) in
     (all.1, all.2)
 
 -- ---- the append
@@ -224,7 +238,8 @@ appends = appends_to 1 booted1 prepare opened1.0 quiet1 clear1
     (may_append shape (first 1) (prepare ∷ []) (omega arith) (refl, refl, tt) (record { mark = refl; checkpoint = refl; boot = refl; group = refl; group_last = refl }, tt) (omega arith, omega arith, omega arith) ((refl, omega arith), tt))
 
 pub lived2 : IsLived shape (second ∷ made ∷ [])
-lived2 = (each_last (IsLivedMoment shape (made ∷ [])) (append_steps prepare) booted1 (opened1.1 (append_steps prepare) (each_weaker (IsGoodLog shape (first 1) kept) (IsSafe shape) (λ l good. good.safe) (append_steps prepare) booted1 appends.leads.moments))).lived
+lived2 = (each_last (IsLivedMoment shape (made ∷ [])) (append_steps prepare) booted1 (opened1.1 (append_steps prepare) (each_weaker
+    (IsGoodLog shape (first 1) kept) (IsSafe shape) (λ l good. good.safe) (append_steps prepare) booted1 appends.leads.moments))).lived
 
 -- ---- its every trace is lost: its slots show what they showed before
 
@@ -232,16 +247,19 @@ abbrev pub shown : Units
 shown = now booted1
 
 pub booted1_ours : All IsOurs booted1.start booted1.events
-booted1_ours = copies_all IsOurs (content 1) (refl, omega arith) (record { start = now made; events = [] }) (now_all IsOurs made.start made.events made_ours)
+booted1_ours = copies_all
+    IsOurs (content 1) (refl, omega arith) (record { start = now made; events = [] }) (now_all IsOurs made.start made.events made_ours)
 
 pub second_ours : All IsOurs second.start second.events
 second_ours = append_ours prepare booted1 (refl, refl) booted1_ours
 
 pub places2 : AreOfPlaces shape shown
-places2 = of_places shown (first 1) opened1.0.holds (now_all IsOurs booted1.start booted1.events booted1_ours) (λ s. refl) (λ k. refl) (λ a. refl)
+places2 =
+    of_places shown (first 1) opened1.0.holds (now_all IsOurs booted1.start booted1.events booted1_ours) (λ s. refl) (λ k. refl) (λ a. refl)
 
 pub start2 : MayStart second (made ∷ []) shown
-start2 = starts second (made ∷ []) shown (second_ours, (made_ours, tt)) (synced_settled (wrote (header_put prepare) (add Synced (wrote (prepare_put prepare) booted1)))) (λ place x is. inl (inl (inr (inr (inl is))))) (inl (λ n below. refl))
+start2 = starts second (made ∷ []) shown (second_ours, (made_ours, tt)) (synced_settled (wrote (header_put prepare)
+    (add Synced (wrote (prepare_put prepare) booted1)))) (λ place x is. inl (inl (inr (inr (inl is))))) (inl (λ n below. refl))
 
 copies2 : (n : ℕ) → n < 4 → shown (CopyPlace n) ≡ Some (CopyUnit (content 1))
 copies2 = copies_are (content 1) shown refl refl refl refl
@@ -256,8 +274,7 @@ pub found2 : IsFound shape shown (first 1)
 found2 = holds_found shape shown (first 1) opened1.0.holds
 
 pub opened2 : RestsOn shape third (first 2) × IsLived shape (third ∷ second ∷ made ∷ [])
-opened2 =
-    let all = opens 1 (omega arith) shown opened1.0.holds copies2 (λ s. refl) second (made ∷ []) lived2 start2 places2 in
+opened2 = let all = opens 1 (omega arith) shown opened1.0.holds copies2 (λ s. refl) second (made ∷ []) lived2 start2 places2 in
     (all.1, (each_last (IsLivedMoment shape (second ∷ made ∷ [])) (update_steps (copies_of (content 2))) (record { start = shown; events = [] }) all.0).lived)
 
 pub history_sample_law : HistorySampleLaw

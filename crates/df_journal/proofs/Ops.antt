@@ -4,13 +4,11 @@ use Rattle.df_journal.specs.Seen.{IsOpOf}
 
 pub op_of_slot : (n op slot : ℕ) → 0 < n → slot < n → IsOpOf n op slot (op + 1 + (slot + n - (op + 1) % n) % n)
 op_of_slot n op slot some below = elim (cases_lt slot r) [
-  | inl less ↦
-      let none_more : slot + n - r ≡ 0 * n + (slot + n - r) = omega arith in
+  | inl less ↦ let none_more : slot + n - r ≡ 0 * n + (slot + n - r) = omega arith in
       let d : (slot + n - r) % n ≡ slot + n - r = ap (λ (k : ℕ). k % n) none_more ∙ mod-mul-add 0 n (slot + n - r) (omega (arith, small)) in
       let is : op + 1 + (slot + n - r) % n ≡ (q + 1) * n + slot = omega (arith, d, split, small, one_more) in
       record { above = omega arith; within = omega (arith, d, less); slot_is = ap (λ (k : ℕ). k % n) is ∙ mod-mul-add (q + 1) n slot below }
-  | inr more ↦
-      let more_is : slot + n - r ≡ 1 * n + (slot - r) = omega (arith, small) in
+  | inr more ↦ let more_is : slot + n - r ≡ 1 * n + (slot - r) = omega (arith, small) in
       let d : (slot + n - r) % n ≡ slot - r = ap (λ (k : ℕ). k % n) more_is ∙ mod-mul-add 1 n (slot - r) (omega arith) in
       let is : op + 1 + (slot + n - r) % n ≡ q * n + slot = omega (arith, d, split, more) in
       record { above = omega arith; within = omega (arith, d, below); slot_is = ap (λ (k : ℕ). k % n) is ∙ mod-mul-add q n slot below }
@@ -34,9 +32,7 @@ op_of_slot n op slot some below = elim (cases_lt slot r) [
 -- two numbers less than n apart with one remainder are one
 close : (n a b : ℕ) → a ≤ b → b < a + n → a % n ≡ b % n → a ≡ b
 close n a b below near same = elim (cases_lt (a / n) (b / n)) [
-  | inl less ↦
-      let step : a / n + 1 ≤ b / n = omega (arith, less) in
-      omega (arith, mul-le-mul_left n step, div-add-mod a n, div-add-mod b n)
+  | inl less ↦ let step : a / n + 1 ≤ b / n = omega (arith, less) in omega (arith, mul-le-mul_left n step, div-add-mod a n, div-add-mod b n)
   | inr more ↦ omega (arith, mul-le-mul_left n more, div-add-mod a n, div-add-mod b n)
 ]
 

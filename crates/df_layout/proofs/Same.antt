@@ -33,10 +33,12 @@ same_five a b c d e p q r s t ap bq cr ds et = cc
 same_of_five : (n m : Five) → n ≡ m → (x : Within n) (y : Within m) → of_five n x ≡ of_five m y
 same_of_five n m e x = subst (λ (k : Five). (y : Within k) → of_five n x ≡ of_five k y) e (λ y. ap (of_five n) (within_prop n x y))
 
-pub same_layout : (a b : Layout) → a.slots ≡ b.slots → a.message_size ≡ b.message_size → a.clients ≡ b.clients → a.block_size ≡ b.block_size → a.blocks ≡ b.blocks → a ≡ b
+pub same_layout : (a b : Layout) → a.slots ≡ b.slots
+    → a.message_size ≡ b.message_size → a.clients ≡ b.clients → a.block_size ≡ b.block_size → a.blocks ≡ b.blocks → a ≡ b
 unfolding of_five
 same_layout a b slots message_size clients block_size blocks =
     same_of_five (a.slots, a.message_size, a.clients, a.block_size, a.blocks) (b.slots, b.message_size, b.clients, b.block_size, b.blocks)
-    (same_five a.slots a.message_size a.clients a.block_size a.blocks b.slots b.message_size b.clients b.block_size b.blocks slots message_size clients block_size blocks)
+    (same_five a.slots a.message_size
+    a.clients a.block_size a.blocks b.slots b.message_size b.clients b.block_size b.blocks slots message_size clients block_size blocks)
     (a.slots_within, a.message_size_within, a.clients_within, a.block_size_within, a.blocks_within)
     (b.slots_within, b.message_size_within, b.clients_within, b.block_size_within, b.blocks_within)

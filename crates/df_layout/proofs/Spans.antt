@@ -20,9 +20,9 @@ zone_in_file layout ClientReplies = let order = zones_follow layout in omega ari
 zone_in_file layout Grid = omega arith
 
 -- the number of a span's first sector is small
-pub first_below : (layout : Layout) (place : Place) → HasPlace layout place → first_sector layout place.zone + sectors_before layout place.zone place.index < 2 ^ 22
-first_below layout place h =
-    let fits = fits_zone layout place.zone place.index h in
+pub first_below : (layout : Layout) (place : Place)
+    → HasPlace layout place → first_sector layout place.zone + sectors_before layout place.zone place.index < 2 ^ 22
+first_below layout place h = let fits = fits_zone layout place.zone place.index h in
     omega (arith, zone_in_file layout place.zone, (zones_follow layout).bound)
 
 pub some_sectors : (layout : Layout) (zone : Zone) → 0 < place_sectors layout zone
@@ -35,8 +35,7 @@ some_sectors layout Grid = let b = block_sectors_within layout in omega arith
 
 pub lies_inside : (layout : Layout) (place : Place) → HasPlace layout place → IsInside layout place
 unfolding span_of
-lies_inside layout place h =
-    let fits = fits_zone layout place.zone place.index h in
+lies_inside layout place h = let fits = fits_zone layout place.zone place.index h in
     record { some = some_sectors layout place.zone; begins = omega arith; ends = omega arith; in_file = omega (arith, zone_in_file layout place.zone) }
 
 -- of two places of one zone, the one of the lower number ends first, unless they are header slots of one sector
@@ -73,14 +72,11 @@ in_zones : (layout : Layout) (z w : Zone) (i j : ℕ) → z ≡ w → HasIndex l
     (a ≡ b) ⊎ ShareHeaderSector a b ⊎ AreApart (span_of layout a) (span_of layout b)
 in_zones layout z w i j same hi = subst
     (λ (w : Zone). HasIndex layout w j → let a : Place = record { zone = z; index = i } in let b : Place = record { zone = w; index = j } in
-    (a ≡ b) ⊎ ShareHeaderSector a b ⊎ AreApart (span_of layout a) (span_of layout b))
-    same (in_one_zone layout z i j hi)
+    (a ≡ b) ⊎ ShareHeaderSector a b ⊎ AreApart (span_of layout a) (span_of layout b)) same (in_one_zone layout z i j hi)
 
 pub are_apart : (layout : Layout) (a b : Place) → HasPlace layout a → HasPlace layout b
     → (a ≡ b) ⊎ ShareHeaderSector a b ⊎ AreApart (span_of layout a) (span_of layout b)
-are_apart layout a b ha hb =
-    let inside_a = lies_inside layout a ha in
-    let inside_b = lies_inside layout b hb in
+are_apart layout a b ha hb = let inside_a = lies_inside layout a ha in let inside_b = lies_inside layout b hb in
     elim (zones_apart layout a.zone b.zone) [
       | inl same ↦ in_zones layout a.zone b.zone a.index b.index same ha hb
       | inr order ↦ elim order [ inl before ↦ inr (inr (inl (omega arith))) | inr after ↦ inr (inr (inr (omega arith))) ]

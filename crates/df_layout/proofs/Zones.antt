@@ -10,32 +10,23 @@ record GridFollows (layout : Layout) : Type 0 where
 
 grid_follows : (layout : Layout) → GridFollows layout
 unfolding first_sector
-grid_follows layout =
-    let some = block_sectors_within layout in
+grid_follows layout = let some = block_sectors_within layout in
     let rounded = div_ceil_times (unpadded layout) (block_sectors layout) (omega arith) in
     record { after = rounded.0; padding = rounded.1; whole = mul-mod_left _ _ }
 
 -- the greatest layout has this many sectors before the padding
 unpadded_within : (layout : Layout) → end_sector layout ClientReplies ≤ 278596
 unfolding first_sector zone_sectors
-unpadded_within layout =
-    let prepares = message_slots_within layout layout.slots 1024 (omega arith) in
-    let replies = message_slots_within layout layout.clients 64 (omega arith) in
-    omega arith
+unpadded_within layout = let prepares = message_slots_within layout layout.slots 1024 (omega arith) in
+    let replies = message_slots_within layout layout.clients 64 (omega arith) in omega arith
 
 grid_within : (layout : Layout) → first_sector layout Grid ≤ 278723
-grid_within layout =
-    let padding = (grid_follows layout).padding in
-    let blocks = block_sectors_within layout in
-    let end = unpadded_within layout in
-    omega arith
+grid_within layout = let padding = (grid_follows layout).padding in let blocks = block_sectors_within layout in
+    let end = unpadded_within layout in omega arith
 
 pub file_within : (layout : Layout) → file_sectors layout < 2 ^ 22
 unfolding zone_sectors
-file_within layout =
-    let begins = grid_within layout in
-    let blocks = blocks_within layout layout.blocks 16384 (omega arith) in
-    omega arith
+file_within layout = let begins = grid_within layout in let blocks = blocks_within layout layout.blocks 16384 (omega arith) in omega arith
 
 pub zones_follow : (layout : Layout) → ZonesFollow layout
 unfolding first_sector
@@ -51,7 +42,8 @@ zones_follow layout = record {
 }
 
 -- two zones are one, or one ends before the other begins
-pub zones_apart : (layout : Layout) (z w : Zone) → (z ≡ w) ⊎ ((end_sector layout z ≤ first_sector layout w) ⊎ (end_sector layout w ≤ first_sector layout z))
+pub zones_apart : (layout : Layout) (z w : Zone)
+    → (z ≡ w) ⊎ ((end_sector layout z ≤ first_sector layout w) ⊎ (end_sector layout w ≤ first_sector layout z))
 zones_apart layout Superblock Superblock = inl refl
 zones_apart layout WalHeaders WalHeaders = inl refl
 zones_apart layout WalPrepares WalPrepares = inl refl

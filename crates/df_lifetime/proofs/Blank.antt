@@ -1,9 +1,8 @@
 -- A file may be made on a disk that was never written.
 use Rattle.std.proofs.{Common.{◌<◌, ◌^◌, ℕ, List, [], ◌∷◌, sym, subst, arith}, lemmas.List.{length-replicate}}
 use Rattle.df_base.{specs.{Image.{Image, IsImage}, Log.{AreEvents, AreSyncs, Event, Stop, Sync, Write}}, proofs.Laws.{blank_is_image}}
-use Rattle.df_layout.specs.declared.layout.Layout.{Layout}
+use Rattle.{df_layout.specs.declared.layout.Layout.{Layout}, df_theory.specs.{Device.{units_log}, MakingLaws.{IsMaking}}}
 use Rattle.df_format.{specs.{First.{first_content, first_super}, Spelling.{IsCheck, no_checksum}, Super.{AreChecks, FitsSuper, no_checksums}}, proofs.Laws.{no_names, no_check}}
-use Rattle.df_theory.specs.{Device.{units_log}, MakingLaws.{IsMaking}}
 use Rattle.df_units.{specs.{Format.{format_of}, Meaning.{content_of}}, proofs.Laws.{new_is_making}}
 use Rattle.df_session.{specs.{Below.{shape}, Making.{file_of}}, proofs.Laws.{first_is_super}}
 use Rattle.df_lifetime.specs.NewDisks.{NewDisksAreMadeOn}
@@ -49,7 +48,6 @@ pub new_disks_are_made_on : NewDisksAreMadeOn
 new_disks_are_made_on layout cluster t named below blank_start syncs = record {
   named = named;
   is_log = record { start = subst IsImage (sym blank_start) blank_is_image; events = syncs_are_events t.log.events syncs };
-  making =
-      rw (sym blank_start) at
-      (new_is_making layout cluster named (shape (file_of layout cluster named)).parse t.log.events (record { rules = first_is_super layout cluster named; fits = first_fits layout cluster below }) syncs);
+  making = rw (sym blank_start) at (new_is_making layout cluster named (shape (file_of layout cluster named)).parse
+      t.log.events (record { rules = first_is_super layout cluster named; fits = first_fits layout cluster below }) syncs);
 }

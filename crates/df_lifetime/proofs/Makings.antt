@@ -1,9 +1,7 @@
 -- What the word `format` does, and each call that makes a file, is a making.
 use Rattle.std.proofs.Common.{◌≡◌, inl, inr, ℕ, List, [], Option, Some, Result, Ok, Err, refl, subst}
-use Rattle.df_base.{specs.{Log.{Event}, Moments.{Extends}}, proofs.Laws.{one_some}}
-use Rattle.df_disk.{specs.Told.{IsHonest, Told}, proofs.Laws.{goes_told}}
-use Rattle.df_layout.specs.declared.layout.Layout.{Layout}
-use Rattle.df_model.specs.declared.errors.FormatError.{FormatError}
+use Rattle.{df_base.{specs.{Log.{Event}, Moments.{Extends}}, proofs.Laws.{one_some}}, df_layout.specs.declared.layout.Layout.{Layout}}
+use Rattle.{df_disk.{specs.Told.{IsHonest, Told}, proofs.Laws.{goes_told}}, df_model.specs.declared.errors.FormatError.{FormatError}}
 use Rattle.df_model.specs.declared.errors.FormatError.TheVariants as formats
 use Rattle.df_session.{specs.{Formatting.{AddsFormat}, Making.{MakingLeaves, MayMakeOn, making_events}, Opened.{ToldBy}}, proofs.Laws.{part_told}}
 use Rattle.df_top.specs.{Formats.{Formats, MakesOn}, declared.status.Status.{Status}, declared.status.Status.TheVariants.{Done, Found, Words, Script, Refused, DiskFault, ReadFault, WriteFault, Memory}}
@@ -12,7 +10,8 @@ use Rattle.df_lifetime.specs.Programs.{CallIsMaking, WordIsMaking}
 -- what was told by events goes on from what was told
 module _ (t n : Told) (by : ToldBy (Some t) (Some n)) where
   told_grew : Extends n.log t.log
-  told_grew = let goes = goes_told t (Some n) by in subst (λ (x : Told). Extends x.log t.log) (one_some (Some n) goes.0 n goes.1 refl) goes.2.grew
+  told_grew = let goes = goes_told t (Some n) by in
+      subst (λ (x : Told). Extends x.log t.log) (one_some (Some n) goes.0 n goes.1 refl) goes.2.grew
 
   told_honest : IsHonest t → IsHonest n
   told_honest honest = let goes = goes_told t (Some n) by in subst IsHonest (one_some (Some n) goes.0 n goes.1 refl) (goes.2.honest honest)
@@ -36,7 +35,8 @@ module _ (layout : Layout) (cluster : ℕ) (t n : Told) where
   abbrev events : List Event
   events = making_events layout cluster
 
-  word_told : (old new : Option (List ℕ)) (status : Status) → Formats layout cluster (Some t) (Some n) old new status → ToldBy (Some t) (Some n)
+  word_told : (old new : Option (List ℕ)) (status : Status)
+      → Formats layout cluster (Some t) (Some n) old new status → ToldBy (Some t) (Some n)
   word_told old new Done made = (events, made.0.events)
   word_told old new Refused refuses = ([], refuses.1.same)
   word_told old new DiskFault part = part_told events (Some t) (Some n) part.1

@@ -1,18 +1,16 @@
--- What an upgrade left begins a history: all units of the old file are of no boot, and the new superblock records the state as it was found.
-use Rattle.std.proofs.Common.{◌≡◌, inl, inr, [], refl, sym, ◌∙◌, ap, arith}
-use Rattle.df_base.specs.Image.{Image, IsImage}
-use Rattle.df_disk.specs.Told.{Told}
+-- What an upgrade left begins a history: all units of the old file are of no boot, and the new superblock records the state as it was
+-- found.
+use Rattle.{std.proofs.Common.{◌≡◌, inl, inr, [], refl, sym, ◌∙◌, ap, arith}, df_base.specs.Image.{Image, IsImage}}
+use Rattle.{df_disk.specs.Told.{Told}, df_history.specs.{Lives.{Starts}, OpenLaws.{BeginsHistory}}, df_trailer.specs.Text.{parse_of}}
 use Rattle.df_theory.{specs.{Found.{IsClean, IsFound}, Holds.{Holds}, Units.{Units}, View.{View, boot_of, head}}, proofs.Laws.{clean_start_law, one_found_law}}
-use Rattle.df_history.specs.{Lives.{Starts}, OpenLaws.{BeginsHistory}}
-use Rattle.df_trailer.specs.Text.{parse_of}
-use Rattle.df_units.{specs.{Bytes.{unit_at}, Meaning.{layout_of}}, proofs.Laws.{of_places}}
-use Rattle.df_model.specs.{Memory.{Memory}, Result.{AgreeReads}}
-use Rattle.df_session.specs.Below.{State as Replica, shape}
+use Rattle.{df_units.{specs.{Bytes.{unit_at}, Meaning.{layout_of}}, proofs.Laws.{of_places}}, df_lifetime.specs.Upgraded.{IsOld}}
+use Rattle.{df_model.specs.{Memory.{Memory}, Result.{AgreeReads}}, df_session.specs.Below.{State as Replica, shape}}
 use Rattle.df_upgrade.specs.{Base.{base_fields}, Below.{IsOpenedAs}, Upgrading.{second, upgraded}}
-use Rattle.df_lifetime.specs.Upgraded.{IsOld}
 
-module _ (t : Told) (s : Replica) (view : View) (old : IsOld s.file view t.shown) (opened : IsOpenedAs 1 s.file.layout t.shown s) (image : Image) (whole : IsImage image)
-    (reads : AgreeReads (unit_at s.file.layout s.file.cluster image) (unit_at s.file.layout s.file.cluster t.shown)) (found : IsFound (shape (second s.file)) (unit_at s.file.layout s.file.cluster image) (upgraded view (base_fields s)))
+module _ (t : Told) (s : Replica)
+    (view : View) (old : IsOld s.file view t.shown) (opened : IsOpenedAs 1 s.file.layout t.shown s) (image : Image) (whole : IsImage image)
+    (reads : AgreeReads (unit_at s.file.layout s.file.cluster image) (unit_at s.file.layout s.file.cluster t.shown))
+    (found : IsFound (shape (second s.file)) (unit_at s.file.layout s.file.cluster image) (upgraded view (base_fields s)))
     (clean : IsClean (unit_at s.file.layout s.file.cluster image) (upgraded view (base_fields s))) where
   abbrev first : View
   first = upgraded view (base_fields s)
@@ -24,7 +22,8 @@ module _ (t : Told) (s : Replica) (view : View) (old : IsOld s.file view t.shown
   after = unit_at s.file.layout s.file.cluster image
 
   holds : Holds (shape (second s.file)) after first
-  holds = (clean_start_law (shape (second s.file)) after first (of_places s.file.layout s.file.cluster s.file.named (parse_of (layout_of s.file.layout)) image whole) found clean).holds
+  holds = (clean_start_law (shape (second s.file))
+      after first (of_places s.file.layout s.file.cluster s.file.named (parse_of (layout_of s.file.layout)) image whole) found clean).holds
 
   -- the old file has no boot
   no_boot : boot_of view ≡ 0

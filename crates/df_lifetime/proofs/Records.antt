@@ -6,28 +6,28 @@ use Rattle.df_lifetime.{specs.Mirrored.{RecordsReplies}, proofs.Next.{old_sessio
 -- ---- one step
 
 -- a content that records a view has checksums of replies that are stored
-some_stored : (u : View) (d : Content) → Records u d → (k : ℕ) → 0 < slice_index d.reply_checksums k → (o : Option Message) → u.stored k ≡ o → (r : Message) × (u.stored k ≡ Some r)
+some_stored : (u : View) (d : Content) → Records u d
+    → (k : ℕ) → 0 < slice_index d.reply_checksums k → (o : Option Message) → u.stored k ≡ o → (r : Message) × (u.stored k ≡ Some r)
 some_stored u d records k some None none = absurd (omega (arith, some, records.unstored k none))
 some_stored u d records k some (Some r) is = (r, is)
 
 -- so these sessions had theirs
-pub recorded_low : (sh : Shape) (u : View) (d : Content) → Sound sh u → Records u d → (k : ℕ) (s : Session) → slice_get (sessions u) k ≡ Some s → 0 < slice_index d.reply_checksums k → s.op ≤ u.replies
-recorded_low sh u d sound records k s at some =
-    let r = some_stored u d records k some (u.stored k) refl in
-    let is = sound.answered k r.0 r.1 in
-    omega (arith, is.2, same_op is.0 s (sym is.1 ∙ at))
+pub recorded_low : (sh : Shape) (u : View) (d : Content) → Sound sh u
+    → Records u d → (k : ℕ) (s : Session) → slice_get (sessions u) k ≡ Some s → 0 < slice_index d.reply_checksums k → s.op ≤ u.replies
+recorded_low sh u d sound records k s at some = let r = some_stored u d records k some (u.stored k) refl in
+    let is = sound.answered k r.0 r.1 in omega (arith, is.2, same_op is.0 s (sym is.1 ∙ at))
 
 records_step : (sh : Shape) (u v : View) → Sound sh u → Next u v → RecordsReplies u → RecordsReplies v
 records_step sh u _ sound Same were = were
-records_step sh u _ sound (Append ps is) were = λ k s at some.
-    let split : slice_get (sessions_after (sessions u) ps) k ≡ Some s = ap (λ (ss : List Session). slice_get ss k) (sym (sessions-append u.checkpoint.parts.sessions u.tail ps)) ∙ at in
+records_step sh u _ sound (Append ps is) were = λ k s at some. let split : slice_get (sessions_after (sessions u) ps) k ≡ Some s =
+    ap (λ (ss : List Session). slice_get ss k) (sym (sessions-append u.checkpoint.parts.sessions u.tail ps)) ∙ at in
     elim (cases_lt (head u) s.op) [
       | inl above ↦ inr (omega (arith, above, sound.records.pin_to))
       | inr not ↦ were k s (old_session ps (head u + 1) _ (head u) (sessions u) is.turn (omega arith) k s split (omega arith)) some
     ]
-records_step sh u _ sound (Reply place r is) were = λ k s at some. elim (were k s at some) [ inl low ↦ inl (omega arith) | inr above ↦ inr above ]
-records_step sh u _ sound (Finish c is) were = λ k s at some.
-    let sessions_are : sessions (checkpointed u c) ≡ sessions u =
+records_step sh u _ sound (Reply place r is) were =
+    λ k s at some. elim (were k s at some) [ inl low ↦ inl (omega arith) | inr above ↦ inr above ]
+records_step sh u _ sound (Finish c is) were = λ k s at some. let sessions_are : sessions (checkpointed u c) ≡ sessions u =
     ap (λ (ss : List Session). sessions_after ss (drop (c.content.op - u.checkpoint.content.op) u.tail)) is.sessions
     ∙ sessions-drop (c.content.op - u.checkpoint.content.op) u.checkpoint.parts.sessions u.tail in
     inl (recorded_low sh u c.content sound is.records k s (ap (λ (ss : List Session). slice_get ss k) (sym sessions_are) ∙ at) some)
@@ -57,4 +57,5 @@ module _ (sh : Shape) (start : Units) (begun : (w : View) → Holds sh start w �
   grows_records (image ∷ []) v (holds, inl begins) ends = begun v (rw ends at holds)
   grows_records (image ∷ []) v (holds, inr (history, (u, goes, grows))) ends = absurd grows
   grows_records (image ∷ before ∷ images) v (holds, inl begins) ends = λ k s at some. absurd (omega (arith, some, begins.0.content.named k))
-  grows_records (image ∷ before ∷ images) v (holds, inr (history, (u, goes, grows))) ends = records_step sh u v (grows_sound sh (before ∷ images) u grows) goes.next (grows_records (before ∷ images) u grows ends)
+  grows_records (image ∷ before ∷ images) v (holds, inr (history, (u, goes, grows))) ends =
+      records_step sh u v (grows_sound sh (before ∷ images) u grows) goes.next (grows_records (before ∷ images) u grows ends)

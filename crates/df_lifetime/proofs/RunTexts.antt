@@ -1,11 +1,8 @@
 -- What a generated run prints: its counts count its answers, and so they say how far the numbers of the file went on.
 use Rattle.std.{proofs.Common.{◌≡◌, ℕ, ◌+◌, Bool, true, false, if◌then◌else◌, List, [], ◌∷◌, map, Some, Result, Ok, Err, refl, sym, ◌∙◌, ap, subst, arith}, specs.Prelude.{slice_index}}
-use Rattle.df_base.specs.{Image.{IsImage}, Streams.{Appends}}
-use Rattle.df_disk.specs.Told.{Told}
-use Rattle.df_inspect.specs.{Reports.{workload_text}, declared.counts.Workload.{Workload}}
-use Rattle.df_layout.specs.declared.layout.Layout.{Layout}
+use Rattle.{df_base.specs.{Image.{IsImage}, Streams.{Appends}}, df_disk.specs.Told.{Told}, df_layout.specs.declared.layout.Layout.{Layout}}
+use Rattle.{df_inspect.specs.{Reports.{workload_text}, declared.counts.Workload.{Workload}}, df_units.specs.Bytes.{unit_at}}
 use Rattle.df_theory.specs.{Found.{IsFound}, Shape.{Shape}, View.{View, head, sequence}}
-use Rattle.df_units.specs.Bytes.{unit_at}
 use Rattle.df_model.specs.{After.{after_advance, after_begin, after_block, after_release}, Commands.{Advance, Answer, Command, ToAdvance, ToAppend, ToBegin, ToFlush, ToRelease, ToReply, ToWriteBlock, WriteBlock}, Memory.{memory_of}, Supply.{Codec, Shown, checksum_given, next, result, shown_after}, Work.{Work}, declared.answers.Progress.{Progress}, declared.answers.Progress.TheVariants.{Done as Ended, Working}, declared.errors.AppendError.{AppendError}, declared.errors.BeginError.{BeginError}, declared.errors.BlockError.{BlockError}, declared.errors.NotLive.{NotLive}, declared.errors.ReplyError.{ReplyError}, declared.errors.StepError.{StepError}}
 use Rattle.df_session.{specs.{Below.{DataFile, memory, shape}, Reading.{shown_of}, Codec.{codec}, Begun.{begun_work}, Found.{FoundFile}, Session.{acts_in, answers_in, command_in}}, proofs.Laws.{layout_there, agree_self}}
 use Rattle.df_workload.{specs.{Asking.{asks_at, number_body}, Draw.{drawn_body}, Following.{Follows}, Hearing.{append_heard, begin_heard, block_heard, heard, outcome_of, release_heard, reply_heard, stepped, told_at}, Rounds.{after_reply, start, to_begin, to_block, to_next, to_release, to_replies, to_step}, declared.state.Point.{Point}, declared.state.Point.TheVariants.{Appending, Replying, Stepping, Writing, Releasing, Beginning, Ending}, declared.state.State.{State as Run}}, proofs.Laws.{asks_end}}
@@ -44,15 +41,18 @@ reply_counts : (op : ℕ) (s : Run) → counted (after_reply op s) ≡ counted s
 reply_counts op s = either_counts _ (counted s) _ _ refl (step_counts s)
 
 -- an answer to what is asked for counts as it does for the file
-heard_append : (s : Run) (r : Result (ℕ × ℕ) AppendError) → counted (to_replies (append_heard (outcome_of (ToAppend r)) s)) ≡ after_answer (ToAppend r) (counted s)
+heard_append : (s : Run) (r : Result (ℕ × ℕ) AppendError)
+    → counted (to_replies (append_heard (outcome_of (ToAppend r)) s)) ≡ after_answer (ToAppend r) (counted s)
 heard_append s (Ok receipt) = replies_counts (append_heard (outcome_of (ToAppend (Ok receipt))) s)
 heard_append s (Err e) = replies_counts (append_heard (outcome_of (ToAppend (Err e))) s)
 
-heard_reply : (op : ℕ) (s : Run) (r : Result ℕ ReplyError) → counted (after_reply op (reply_heard (outcome_of (ToReply r)) s)) ≡ after_answer (ToReply r) (counted s)
+heard_reply : (op : ℕ) (s : Run) (r : Result ℕ ReplyError)
+    → counted (after_reply op (reply_heard (outcome_of (ToReply r)) s)) ≡ after_answer (ToReply r) (counted s)
 heard_reply op s (Ok sum) = reply_counts op (reply_heard (outcome_of (ToReply (Ok sum))) s)
 heard_reply op s (Err e) = reply_counts op (reply_heard (outcome_of (ToReply (Err e))) s)
 
-heard_step : (s : Run) (r : Result Progress StepError) → counted (stepped (outcome_of (ToAdvance r)) s) ≡ after_answer (ToAdvance r) (counted s)
+heard_step : (s : Run) (r : Result Progress StepError)
+    → counted (stepped (outcome_of (ToAdvance r)) s) ≡ after_answer (ToAdvance r) (counted s)
 heard_step s (Ok (Working left)) = refl
 heard_step s (Ok (Ended sequence)) = refl
 heard_step s (Err e) = refl
@@ -82,26 +82,29 @@ module _ (sh : Shape) (by : Codec) (shown : Shown) (w : Work) where
   point_counts : (p : Point) (s : Run) (c : Command) → asks_at p s ≡ Some c → Counts p s c
   point_counts Appending s c is = subst (Counts Appending s) (same_command _ c is) (heard_append s _)
   point_counts (Replying op) s c is = subst (Counts (Replying op) s) (same_command _ c is) (heard_reply op s _)
-  point_counts Stepping s c is =
-      let r : Result Progress StepError = (after_advance sh by.spell w (sum Advance)).1 in
+  point_counts Stepping s c is = let r : Result Progress StepError = (after_advance sh by.spell w (sum Advance)).1 in
       subst (Counts Stepping s) (same_command Advance c is) (block_counts (stepped (outcome_of (ToAdvance r)) s) ∙ heard_step s r)
-  point_counts Writing s c is = subst (Counts Writing s) (same_command _ c is) (heard_write s (after_block sh by.spell w (sum (WriteBlock 1 (drawn_body s.number))) 1 (drawn_body s.number)).1)
-  point_counts Releasing s c is = subst (Counts Releasing s) (same_command _ c is) (heard_release s (after_release sh by.spell w (slice_index s.held 0)).1)
-  point_counts Beginning s c is = subst (Counts Beginning s) (same_command _ c is) (heard_begin s (after_begin sh by.spell w (number_body s.round)).1)
+  point_counts Writing s c is = subst (Counts Writing s)
+      (same_command _ c is) (heard_write s (after_block sh by.spell w (sum (WriteBlock 1 (drawn_body s.number))) 1 (drawn_body s.number)).1)
+  point_counts Releasing s c is =
+      subst (Counts Releasing s) (same_command _ c is) (heard_release s (after_release sh by.spell w (slice_index s.held 0)).1)
+  point_counts Beginning s c is =
+      subst (Counts Beginning s) (same_command _ c is) (heard_begin s (after_begin sh by.spell w (number_body s.round)).1)
   point_counts Ending s c is = subst (Counts Ending s) (asks_end s.running c is) (heard_step s _)
 
 module _ (sh : Shape) (by : Codec) where
   -- so do all of them
-  run_counts : (shown : Shown) (w : Work) (s e : Run) (cs : List Command) (xs : List Answer) → Follows s cs xs e → xs ≡ result sh by shown w cs → counted e ≡ after_answers xs (counted s)
+  run_counts : (shown : Shown) (w : Work) (s e : Run) (cs : List Command) (xs : List Answer)
+      → Follows s cs xs e → xs ≡ result sh by shown w cs → counted e ≡ after_answers xs (counted s)
   run_counts shown w s e [] [] one are = ap counted one
   run_counts shown w s e [] (x ∷ xs) one are = absurd one
   run_counts shown w s e (c ∷ cs) [] one are = absurd one
-  run_counts shown w s e (c ∷ cs) (x ∷ xs) one are =
-      let here : x ≡ (next sh by shown w c).1 = cc are in
+  run_counts shown w s e (c ∷ cs) (x ∷ xs) one are = let here : x ≡ (next sh by shown w c).1 = cc are in
       let more : xs ≡ result sh by (shown_after by shown (memory_of sh by.spell w) c) (next sh by shown w c).0 cs = cc are in
       let first : counted (heard x s) ≡ after_answer x (counted s) =
       rw (sym here) at (point_counts sh by shown w s.point s c one.0) in
-      run_counts (shown_after by shown (memory_of sh by.spell w) c) (next sh by shown w c).0 (heard x s) e cs xs one.1 more ∙ ap (after_answers xs) first
+      run_counts (shown_after by shown (memory_of sh by.spell w) c) (next sh by shown w c).0 (heard x s) e cs xs one.1 more
+      ∙ ap (after_answers xs) first
 
 -- ---- from any numbers on
 
@@ -130,22 +133,28 @@ all_added (x ∷ xs) n m = ap (after_answers xs) (one_added x n m) ∙ all_added
 pub one_run : OneRun
 one_run seed count file image view run other one two =
     let by : List Command → List Answer = result (shape file) (codec file) (shown_of file image) (begun_work file image view) in
-    (same_run (shape file) (codec file) (shown_of file image) (begun_work file image view) (start seed count file.layout.clients) run other one.commands two.commands (by one.commands) (by two.commands)
+    (same_run (shape file) (codec file) (shown_of file image) (begun_work file image view)
+    (start seed count file.layout.clients) run other one.commands two.commands (by one.commands) (by two.commands)
     one.follows two.follows one.ends two.ends refl refl).0
 
-module _ (seed count : ℕ) (layout : Layout) (t : Told) (old new : Outside) (status : Status) (opening : FoundFile layout t) (works : WorksThrough seed count layout t opening old new status) (view : View) (whole : IsImage t.shown)
-    (found : IsFound (shape opening.replica.file) (unit_at opening.replica.file.layout opening.replica.file.cluster t.shown) view) (ended : HasEnded status) where
+module _ (seed count : ℕ) (layout : Layout) (t : Told) (old new : Outside) (status : Status)
+    (opening : FoundFile layout t) (works : WorksThrough seed count layout t opening old new status) (view : View) (whole : IsImage t.shown)
+    (found : IsFound (shape opening.replica.file) (unit_at opening.replica.file.layout opening.replica.file.cluster t.shown) view)
+    (ended : HasEnded status) where
   abbrev file : DataFile
   file = opening.replica.file
 
   abbrev w : Work
   w = begun_work file t.shown view
 
-  answers_are : (answers_in works.worked.exchanges) ≡ result (shape file) (codec file) (shown_of file t.shown) w (map command_in (acts_in works.worked.exchanges))
+  answers_are : (answers_in works.worked.exchanges)
+      ≡ result (shape file) (codec file) (shown_of file t.shown) w (map command_in (acts_in works.worked.exchanges))
   answers_are = works.calls.result view (shown_of file t.shown) found (agree_self file.layout (shown_of file t.shown))
 
-  follows_on : Follows (start seed count file.layout.clients) (map command_in (acts_in works.worked.exchanges)) (answers_in works.worked.exchanges) works.run
-  follows_on = subst (λ (l : Layout). Follows (start seed count l.clients) (map command_in (acts_in works.worked.exchanges)) (answers_in works.worked.exchanges) works.run) (sym (layout_there layout t opening)) works.worked.follows
+  follows_on : Follows
+      (start seed count file.layout.clients) (map command_in (acts_in works.worked.exchanges)) (answers_in works.worked.exchanges) works.run
+  follows_on = subst (λ (l : Layout). Follows (start seed count l.clients) (map command_in (acts_in works.worked.exchanges))
+      (answers_in works.worked.exchanges) works.run) (sym (layout_there layout t opening)) works.worked.follows
 
   is_run : IsRun seed count file t.shown view works.run
   is_run = record {
@@ -155,20 +164,20 @@ module _ (seed count : ℕ) (layout : Layout) (t : Told) (old new : Outside) (st
   }
 
   run_counted : counted works.run ≡ after_answers (answers_in works.worked.exchanges) (0, 0, 0)
-  run_counted = run_counts (shape file) (codec file) (shown_of file t.shown) w (start seed count file.layout.clients) works.run (map command_in (acts_in works.worked.exchanges)) (answers_in works.worked.exchanges) follows_on answers_are
+  run_counted = run_counts (shape file) (codec file) (shown_of file t.shown) w (start seed count file.layout.clients)
+      works.run (map command_in (acts_in works.worked.exchanges)) (answers_in works.worked.exchanges) follows_on answers_are
 
   numbers : numbers_in (memory works.last) ≡ added (head view, view.replies, sequence view) (counted works.run)
-  numbers =
-      let first : Numbers = (head view, view.replies, sequence view) in
+  numbers = let first : Numbers = (head view, view.replies, sequence view) in
       last_numbers seed count layout t old new status opening works whole ended ∙ ap (after_answers (answers_in works.worked.exchanges)) (first_numbers seed count layout t old new status opening works whole ended view found ∙ none_added first) ∙ all_added (answers_in works.worked.exchanges) first (0, 0, 0) ∙ ap (added first) (sym run_counted)
 
   report : workload_of works.run works.last ≡ workload_by view works.run
   report = λ i. workload_with works.run (numbers i).0 (numbers i).1 (numbers i).2
 
   prints_result : (run : Run) × IsRun seed count file t.shown view run × (status ≡ Done) × Appends old.written new.written (run_text view run)
-  prints_result =
-      let ends = by_end seed count layout t old new status opening works whole ended in
+  prints_result = let ends = by_end seed count layout t old new status opening works whole ended in
       (works.run, is_run, ends.1, subst (λ (x : Workload). Appends old.written new.written (workload_text x)) report ends.2)
 
 pub run_text_is_result : RunTextIsResult
-run_text_is_result seed count layout t old new status opening works view whole found ended = prints_result seed count layout t old new status opening works view whole found ended
+run_text_is_result seed count layout t old new status opening works view whole found ended =
+    prints_result seed count layout t old new status opening works view whole found ended

@@ -12,17 +12,19 @@ pub record Searches {S : Type 0} (first source : S) (start now : Contents) (befo
   pub within : seen ≤ length now.bytes
   pub none : line_end (take seen now.bytes) ≡ seen
 
-end_behind : (bytes : List ℕ) (seen : ℕ) → seen ≤ length bytes → line_end (take seen bytes) ≡ seen → line_end bytes ≡ seen + line_end (drop seen bytes)
-end_behind bytes seen within none =
-    let size = length-take-le seen bytes within in
-    ap line_end (sym (take-append-drop seen bytes)) ∙ position_past is_feed (take seen bytes) (drop seen bytes) (none ∙ sym size) ∙ ap (λ (n : ℕ). n + line_end (drop seen bytes)) size
+end_behind : (bytes : List ℕ) (seen : ℕ)
+    → seen ≤ length bytes → line_end (take seen bytes) ≡ seen → line_end bytes ≡ seen + line_end (drop seen bytes)
+end_behind bytes seen within none = let size = length-take-le seen bytes within in ap line_end (sym (take-append-drop seen bytes))
+    ∙ position_past is_feed (take seen bytes) (drop seen bytes) (none ∙ sym size) ∙ ap (λ (n : ℕ). n + line_end (drop seen bytes)) size
 
-pub behind_none : (bytes : List ℕ) (seen : ℕ) → seen ≤ length bytes → line_end (take seen bytes) ≡ seen → position is_feed (take (length bytes - seen) (drop seen bytes)) ≡ None → line_end bytes ≡ length bytes
+pub behind_none : (bytes : List ℕ) (seen : ℕ) → seen ≤ length bytes → line_end (take seen bytes) ≡ seen
+    → position is_feed (take (length bytes - seen) (drop seen bytes)) ≡ None → line_end bytes ≡ length bytes
 behind_none bytes seen within none is =
     let rest = position_none is_feed (drop seen bytes) (ap (position is_feed) (sym (take_rest bytes seen)) ∙ is) in
     omega (arith, end_behind bytes seen within none, rest, length-drop seen bytes)
 
-pub behind_some : (bytes : List ℕ) (seen at : ℕ) → seen ≤ length bytes → line_end (take seen bytes) ≡ seen → position is_feed (take (length bytes - seen) (drop seen bytes)) ≡ Some at → (seen + at ≡ line_end bytes) × (seen + at < length bytes)
+pub behind_some : (bytes : List ℕ) (seen at : ℕ) → seen ≤ length bytes → line_end (take seen bytes) ≡ seen
+    → position is_feed (take (length bytes - seen) (drop seen bytes)) ≡ Some at → (seen + at ≡ line_end bytes) × (seen + at < length bytes)
 behind_some bytes seen at within none is =
     let rest = position_some is_feed (drop seen bytes) at (ap (position is_feed) (sym (take_rest bytes seen)) ∙ is) in
     (omega (arith, end_behind bytes seen within none, rest), omega (arith, rest, length-drop seen bytes))

@@ -47,20 +47,13 @@ body_of said = []
 
 -- the line of this name with these numbers and this body
 abbrev pub line_named : List ℕ → ℕ → ℕ → List ℕ → Said
-line_named name first second body =
-    if bytes_eq name (codes "append") then Append first second body
-    else if bytes_eq name (codes "stage") then Stage first second body
-    else if bytes_eq name (codes "flush") then Flush
-    else if bytes_eq name (codes "reply") then Reply first body
-    else if bytes_eq name (codes "block") then Block first body
-    else if bytes_eq name (codes "release") then Release first
-    else if bytes_eq name (codes "checkpoint") then Checkpoint body
-    else if bytes_eq name (codes "prepare") then Prepare first
-    else if bytes_eq name (codes "lookup") then Lookup first
-    else if bytes_eq name (codes "read") then Read first
-    else if bytes_eq name (codes "scrub") then Scrub
-    else if bytes_eq name (codes "recent") then Recent
-    else Step
+line_named name first second body = if bytes_eq name (codes "append") then Append first second body
+    else if bytes_eq name (codes "stage") then Stage first second body else if bytes_eq name (codes "flush") then Flush
+    else if bytes_eq name (codes "reply") then Reply first body else if bytes_eq name (codes "block") then Block first body
+    else if bytes_eq name (codes "release") then Release first else if bytes_eq name (codes "checkpoint") then Checkpoint body
+    else if bytes_eq name (codes "prepare") then Prepare first else if bytes_eq name (codes "lookup") then Lookup first
+    else if bytes_eq name (codes "read") then Read first else if bytes_eq name (codes "scrub") then Scrub
+    else if bytes_eq name (codes "recent") then Recent else Step
 
 -- a line's name says which line it is
 pub is_named : (said : Said) (name : List ℕ) → name ≡ name_of said → said ≡ line_named name (first_of said) (second_of said) (body_of said)
@@ -101,7 +94,8 @@ pub nothing_said : (said : Said) → SaysLine [] said → ⊥
 nothing_said said says = omega (arith, ap length (bare_name [] (name_of said) refl (begun [] said says)), some_name said)
 
 -- a line of this name is the one that the name stands for
-pub only : (line name words known : List ℕ) → Cuts line name words → name ≡ known → ((first second : ℕ) (body : List ℕ) → SaysLine (known ++ (32 ∷ words)) (line_named known first second body) → ⊥) → (said : Said) → SaysLine line said → ⊥
+pub only : (line name words known : List ℕ) → Cuts line name words → name ≡ known → ((first second : ℕ) (body : List ℕ)
+    → SaysLine (known ++ (32 ∷ words)) (line_named known first second body) → ⊥) → (said : Said) → SaysLine line said → ⊥
 only line name words known cuts is none said says =
     let same = is_named said known (sym is ∙ cut_name line name words (name_of said) cuts (begun line said says)) in
     let whole : line ≡ known ++ (32 ∷ words) = cuts.whole ∙ ap (λ (l : List ℕ). l ++ (32 ∷ words)) is in

@@ -9,8 +9,7 @@ pub record Begun (line named : List ℕ) : Type 0 where
 
 -- a line of one word is its name
 pub bare_name : (line named : List ℕ) → HasNoSpace line → Begun line named → line ≡ named
-bare_name line named none b =
-    elim b.is [ inl bare ↦ bare | inr worded ↦ absurd (no_cut line named b.rest none worded b.word) ]
+bare_name line named none b = elim b.is [ inl bare ↦ bare | inr worded ↦ absurd (no_cut line named b.rest none worded b.word) ]
 
 -- a line that has a space isn't one without
 pub cut_has_space : (line name words : List ℕ) → Cuts line name words → HasNoSpace line → ⊥
@@ -20,19 +19,17 @@ cut_has_space line name words cuts none =
 
 -- what stands before the first space is the name
 pub cut_name : (line name words named : List ℕ) → Cuts line name words → Begun line named → name ≡ named
-cut_name line name words named cuts b =
-    elim b.is [
-      | inl bare ↦ absurd (cut_has_space line name words cuts (subst HasNoSpace (sym bare) b.word))
-      | inr worded ↦ (one_cut line name words named b.rest cuts worded b.word).0
-    ]
+cut_name line name words named cuts b = elim b.is [
+  | inl bare ↦ absurd (cut_has_space line name words cuts (subst HasNoSpace (sym bare) b.word))
+  | inr worded ↦ (one_cut line name words named b.rest cuts worded b.word).0
+]
 
 -- a line has one name
 pub one_name : (line a b : List ℕ) → Begun line a → Begun line b → a ≡ b
-one_name line a b x y =
-    elim x.is [
-      | inl bare ↦ sym bare ∙ bare_name line b (subst HasNoSpace (sym bare) x.word) y
-      | inr worded ↦ elim y.is [
-        | inl bare ↦ absurd (no_cut line a x.rest (subst HasNoSpace (sym bare) y.word) worded x.word)
-        | inr words ↦ (one_split a x.rest b y.rest x.word y.word (sym worded ∙ words)).0
-      ]
-    ]
+one_name line a b x y = elim x.is [
+  | inl bare ↦ sym bare ∙ bare_name line b (subst HasNoSpace (sym bare) x.word) y
+  | inr worded ↦ elim y.is [
+    | inl bare ↦ absurd (no_cut line a x.rest (subst HasNoSpace (sym bare) y.word) worded x.word)
+    | inr words ↦ (one_split a x.rest b y.rest x.word y.word (sym worded ∙ words)).0
+  ]
+]

@@ -6,7 +6,8 @@ use Rattle.df_lines.specs.declared.next.Next.TheVariants as nexts
 use Rattle.df_lines.specs.Text as text
 
 -- the text whose front is held
-pub parts_of : (bytes all : List ℕ) (left : Option (List ℕ)) → unread bytes left ≡ Some all → (rest : List ℕ) × (left ≡ Some rest) × (all ≡ bytes ++ rest)
+pub parts_of : (bytes all : List ℕ) (left : Option (List ℕ))
+    → unread bytes left ≡ Some all → (rest : List ℕ) × (left ≡ Some rest) × (all ≡ bytes ++ rest)
 parts_of bytes all None is = cc is
 parts_of bytes all (Some rest) is = (rest, refl, let same : Some (bytes ++ rest) ≡ Some all = is in cc)
 
@@ -26,14 +27,14 @@ length_line : (bytes : List ℕ) → length (line_of bytes) ≡ line_end bytes
 length_line bytes = length-take-le (line_end bytes) bytes (position_le is_feed bytes)
 
 -- a line that ends before a byte 10
-fed : (window : Contents) (size : ℕ) (rest : List ℕ) → size ≡ line_end window.bytes → size < length window.bytes → Front window size (size + 1) (Some rest) (window.bytes ++ rest)
-fed window size rest is within =
-    let b = window.bytes in
+fed : (window : Contents) (size : ℕ) (rest : List ℕ)
+    → size ≡ line_end window.bytes → size < length window.bytes → Front window size (size + 1) (Some rest) (window.bytes ++ rest)
+fed window size rest is within = let b = window.bytes in
     let at : line_end (b ++ rest) ≡ size = position_within is_feed b rest (omega arith) ∙ sym is in
     let line : line_of (b ++ rest) ≡ take size b = ap (λ (n : ℕ). take n (b ++ rest)) at ∙ take-append-le size b rest (omega arith) in
-    let after : after_line (b ++ rest) ≡ drop (size + 1) b ++ rest = ap (λ (n : ℕ). drop (n + 1) (b ++ rest)) at ∙ drop-append-le (size + 1) b rest (omega arith) in
-    let after_size = ap length after ∙ length-append (drop (size + 1) b) rest in
-    record {
+    let after : after_line (b ++ rest) ≡ drop (size + 1) b ++ rest =
+    ap (λ (n : ℕ). drop (n + 1) (b ++ rest)) at ∙ drop-append-le (size + 1) b rest (omega arith) in
+    let after_size = ap length after ∙ length-append (drop (size + 1) b) rest in record {
       line = line;
       rest = ap Some (sym after);
       size_is = length_line (b ++ rest) ∙ at;
@@ -43,15 +44,13 @@ fed window size rest is within =
     }
 
 -- a last line
-last : (window : Contents) (size : ℕ) → size ≡ line_end window.bytes → size ≡ length window.bytes → 0 < size → Front window size size (Some []) (window.bytes ++ [])
-last window size is all some =
-    let b = window.bytes in
-    let nil : b ++ [] ≡ b = append-nil b in
+last : (window : Contents) (size : ℕ)
+    → size ≡ line_end window.bytes → size ≡ length window.bytes → 0 < size → Front window size size (Some []) (window.bytes ++ [])
+last window size is all some = let b = window.bytes in let nil : b ++ [] ≡ b = append-nil b in
     let at : line_end (b ++ []) ≡ size = ap line_end nil ∙ sym is in
     let line : line_of (b ++ []) ≡ take size b = ap (λ (n : ℕ). take n (b ++ [])) at ∙ ap (λ (l : List ℕ). take size l) nil in
     let after : after_line (b ++ []) ≡ [] = drop_all (line_end (b ++ []) + 1) (b ++ []) (omega (arith, at, ap length nil)) in
-    let held : drop size b ≡ [] = drop_all size b (omega arith) in
-    record {
+    let held : drop size b ≡ [] = drop_all size b (omega arith) in record {
       line = line;
       rest = ap (λ (l : List ℕ). Some (l ++ [])) held ∙ ap Some (sym after);
       size_is = length_line (b ++ []) ∙ at;
@@ -60,17 +59,15 @@ last window size is all some =
       read = ap (λ (n : ℕ). take n b) (sym is) ∙ sym line;
     }
 
-front_line : (window : Contents) (size taken : ℕ) (left : Option (List ℕ)) (all : List ℕ) → IsWholeLine window size taken → unread window.bytes left ≡ Some all → (IsTrue window.ended → IsAtEnd left) → Front window size taken left all
-front_line window size taken left all whole is at_end =
-    let parts = parts_of window.bytes all left is in
+front_line : (window : Contents) (size taken : ℕ) (left : Option (List ℕ)) (all : List ℕ) → IsWholeLine window size taken
+    → unread window.bytes left ≡ Some all → (IsTrue window.ended → IsAtEnd left) → Front window size taken left all
+front_line window size taken left all whole is at_end = let parts = parts_of window.bytes all left is in
     let FrontOf : ℕ → List ℕ → Type 0 = λ n l. Front window size n (Some l) (window.bytes ++ l) in
     let front : FrontOf taken parts.0 = elim whole.ends [
       | inl fed_line ↦ rw (sym fed_line.1) at (fed window size parts.0 whole.line fed_line.0)
-      | inr last_line ↦
-          let none : parts.0 ≡ [] = subst IsAtEnd parts.1 (at_end last_line.0) in
+      | inr last_line ↦ let none : parts.0 ≡ [] = subst IsAtEnd parts.1 (at_end last_line.0) in
           rw last_line.2 (subst (FrontOf size) (sym none) (last window size whole.line last_line.1 last_line.3))
-    ] in
-    let here : Front window size taken left (window.bytes ++ parts.0) = rw (sym parts.1) at front in
+    ] in let here : Front window size taken left (window.bytes ++ parts.0) = rw (sym parts.1) at front in
     subst (λ (l : List ℕ). Front window size taken left l) (sym parts.2) here
 
 module _ {L : Type 0} (grammar : Grammar L) where
@@ -108,19 +105,14 @@ module _ {L : Type 0} (grammar : Grammar L) where
   -- what a reader gives of a text whose next line is whole in the window, and what is still unread then
   pub next_line : (old : ReaderParts) (window new : Contents) (size taken rest : ℕ) (before left : Option (List ℕ)) (all body : List ℕ) (next : Next L) → old.reading.bound ≡ window.size - 1 → IsWholeLine window size taken → unread window.bytes left ≡ unread old.reading.held before → ((IsTrue old.ended → IsAtEnd before) → IsTrue window.ended → IsAtEnd left) → Takes grammar window new old.reading.budget rest body size taken next → HasTextToCome old before all
       → let room : ReaderParts = record { reading = record { held = new.bytes; bound = new.size - 1; budget = rest }; ended = new.ended; body = body } in GivesNext grammar old room all left next × HasTextToCome room left (text_after {E = Failed} (Ok next) all)
-  next_line old window new size taken rest before left all body next bound whole same ended takes tells =
-      let is = same ∙ tells.is in
-      let at_end = ended tells.ended in
-      let front = front_line window size taken left all whole is at_end in
+  next_line old window new size taken rest before left all body next bound whole same ended takes tells = let is = same ∙ tells.is in
+      let at_end = ended tells.ended in let front = front_line window size taken left all whole is at_end in
       (gives_line old window new size taken rest left all body next bound whole.fits is front takes, tells_line (new.size - 1) window new size taken old.reading.budget rest left all body next is at_end front takes)
 
   pub gives_refusal : (old : ReaderParts) (window : Contents) (left : Option (List ℕ)) (all body : List ℕ) → old.reading.bound ≡ window.size - 1 → 0 < window.size → IsOverfull window → unread window.bytes left ≡ Some all → GivesNext grammar old (record { reading = record { held = window.bytes; bound = window.size - 1; budget = old.reading.budget }; ended = window.ended; body = body }) all left nexts.Refused
-  gives_refusal old window left all body bound some over is =
-      let b = window.bytes in
-      let parts = parts_of b all left is in
+  gives_refusal old window left all body bound some over is = let b = window.bytes in let parts = parts_of b all left is in
       let at = position_past is_feed b parts.0 over.none in
-      let size = ap (λ (l : List ℕ). length (line_of l)) parts.2 ∙ length_line (b ++ parts.0) in
-      record {
+      let size = ap (λ (l : List ℕ). length (line_of l)) parts.2 ∙ length_line (b ++ parts.0) in record {
         refuses = record {
           some = not_none all (omega (arith, ap length parts.2, length-append b parts.0, over.full));
           none = λ said line. omega (arith, size, at, line.within.line, over.full);

@@ -2,7 +2,8 @@
 use Rattle.std.proofs.{Common.{◌≡◌, ℕ, ◌-◌, ◌/◌, ◌%◌, ◌<◌, ◌≤◌, nat_le, nat_lt, List, length, arith}, lemmas.Bool.Decides.{nat_tests}}
 use Rattle.df_base.specs.Image.{covers}
 
-pub covers_behind : (at sector : ℕ) (bytes : List ℕ) → length bytes % 4096 ≡ 0 → at ≤ sector → nat_lt (sector - at) (length bytes / 4096) ≡ covers at bytes sector
+pub covers_behind : (at sector : ℕ) (bytes : List ℕ)
+    → length bytes % 4096 ≡ 0 → at ≤ sector → nat_lt (sector - at) (length bytes / 4096) ≡ covers at bytes sector
 unfolding covers
 covers_behind at sector bytes whole behind = grind (arith, nat_tests)
 

@@ -13,8 +13,7 @@ unwrap-if false bytes rest = refl
 
 changed_is : (cs : List (ℕ × List ℕ)) (image : Image) (sector : ℕ) → changed cs image sector ≡ unwrap_or (last_change cs sector) (image sector)
 changed_is [] image sector = refl
-changed_is (c ∷ cs) image sector =
-    changed_is cs (λ s. if s == c.0 then c.1 else image s) sector
+changed_is (c ∷ cs) image sector = changed_is cs (λ s. if s == c.0 then c.1 else image s) sector
     ∙ ap (λ (rest : List ℕ). unwrap_or (last_change cs sector) rest) (unwrap-if (sector == c.0) c.1 (image sector))
     ∙ sym (unwrap-first (last_change cs sector) (if sector == c.0 then Some c.1 else None) (image sector))
 
@@ -26,7 +25,6 @@ after_is (Stop cs) image sector = changed_is cs image sector
 
 pub now_is : (start : Image) (es : List Event) (sector : ℕ) → now_of start es sector ≡ unwrap_or (newest_of es sector) (start sector)
 now_is start [] sector = refl
-now_is start (e ∷ es) sector =
-    after_is e (now_of start es) sector
+now_is start (e ∷ es) sector = after_is e (now_of start es) sector
     ∙ ap (λ (rest : List ℕ). unwrap_or (given_by e sector) rest) (now_is start es sector)
     ∙ sym (unwrap-first (given_by e sector) (newest_of es sector) (start sector))

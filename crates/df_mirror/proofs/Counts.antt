@@ -1,15 +1,13 @@
 -- How many blocks the trailer of a superblock has.
-use Rattle.std.proofs.{Common.{ℕ, ◌-◌, ◌<◌, ◌≤◌, arith, inl, inr}, lemmas.Bool.{cases_lt}}
-use Rattle.df_format.specs.{Copies.{content_with}, SuperRules.{IsSuper}}
-use Rattle.df_theory.specs.Trailer.{IsCount, IsReference}
-use Rattle.df_trailer.specs.Text.{parse_of}
-use Rattle.df_units.{specs.Meaning.{layout_of}, proofs.Laws.{usable_passes}}
-use Rattle.df_grid.specs.Laws.{ChainsHaveRoom}
+use Rattle.{std.proofs.{Common.{ℕ, ◌-◌, ◌<◌, ◌≤◌, arith, inl, inr}, lemmas.Bool.{cases_lt}}, df_theory.specs.Trailer.{IsCount, IsReference}}
+use Rattle.{df_format.specs.{Copies.{content_with}, SuperRules.{IsSuper}}, df_trailer.specs.Text.{parse_of}}
+use Rattle.{df_units.{specs.Meaning.{layout_of}, proofs.Laws.{usable_passes}}, df_grid.specs.Laws.{ChainsHaveRoom}}
 use Rattle.df_mirror.specs.{declared.superblock.Superblock.{Superblock}, Walks.{IsInsideGrid, content_of_superblock}}
 
 module _ (b : Superblock) (usable : IsSuper b.content) where
   pub reference : IsReference (layout_of b.file.layout) (content_of_superblock b)
-  reference = (usable_passes b.file.layout b.file.cluster b.file.named (parse_of (layout_of b.file.layout)) (content_with b.content) b.fields usable).1
+  reference = (usable_passes
+      b.file.layout b.file.cluster b.file.named (parse_of (layout_of b.file.layout)) (content_with b.content) b.fields usable).1
 
   module _ (n : ℕ) (counts : IsCount (b.file.layout.block_size - 256) b.content.trailer_size n) where
     pub count_few : ChainsHaveRoom → n ≤ 70

@@ -32,13 +32,17 @@ check_answer m verdict [] = TourEnd m.tour.checked m.tour.failing
 check_answer m verdict (x ∷ more) = Checked x.0 verdict
 
 abbrev pub answer_from : (Parts → List ℕ) → Memory → Given → Command → Answer
-answer_from spell m given (Append client request body) = ToAppend (answer_or (first_refusal (append_refusals m client request body)) (m.head + 1, supplied_sum given))
-answer_from spell m given (Stage client request body) = ToStage (answer_or (first_refusal (stage_refusals m client request body)) (m.head + length m.staged + 1))
+answer_from spell m given (Append client request body) =
+    ToAppend (answer_or (first_refusal (append_refusals m client request body)) (m.head + 1, supplied_sum given))
+answer_from spell m given (Stage client request body) =
+    ToStage (answer_or (first_refusal (stage_refusals m client request body)) (m.head + length m.staged + 1))
 answer_from spell m given Flush = ToFlush (answer_or (first_refusal (flush_refusals m)) (length m.staged))
 answer_from spell m given (Reply op body) = ToReply (answer_or (first_refusal (reply_refusals m op body)) (supplied_sum given))
-answer_from spell m given (WriteBlock kind body) = ToWriteBlock (answer_or (first_refusal (block_refusals m kind body)) (next_address m, supplied_sum given))
+answer_from spell m given (WriteBlock kind body) =
+    ToWriteBlock (answer_or (first_refusal (block_refusals m kind body)) (next_address m, supplied_sum given))
 answer_from spell m given (Release address) = ToRelease (answer_or {A = Unit {0}} (first_refusal (release_refusals m address)) tt)
-answer_from spell m given (Begin root) = ToBegin (answer_or (first_refusal (begin_refusals m (needed_of spell m root) root)) (needed_of spell m root))
+answer_from spell m given (Begin root) =
+    ToBegin (answer_or (first_refusal (begin_refusals m (needed_of spell m root) root)) (needed_of spell m root))
 answer_from spell m given Advance = ToAdvance (step_answer m m.running)
 answer_from spell m given (ReadPrepare op) = ToReadPrepare (prepare_answer m (supplied_message given) op)
 answer_from spell m given (ReadReply client) = ToReadReply (lookup_answer m (supplied_message given) client)
@@ -63,19 +67,27 @@ module _ (sh : Shape) (spell : Parts → List ℕ) (w : Work) (given : Given) wh
   check_is (x ∷ more) = refl
 
   pub answer_is : (c : Command) → (after sh spell w given c).1 ≡ answer_from spell m given c
-  answer_is (Append client request body) = ap ToAppend (outcome_answer (first_refusal (append_refusals m client request body)) w (with_prepare w (prepare_of m (supplied_sum given) client request body)) (m.head + 1, supplied_sum given))
-  answer_is (Stage client request body) = ap ToStage (outcome_answer (first_refusal (stage_refusals m client request body)) w (with_staged w (record { client = client; request = request; body = body })) (m.head + length m.staged + 1))
-  answer_is Flush = ap ToFlush (outcome_answer (first_refusal (flush_refusals m)) w (with_group w (group_of m (supplied_sums given))) (length m.staged))
-  answer_is (Reply op body) = ap ToReply (outcome_answer (first_refusal (reply_refusals m op body)) w (with_reply w (place_of_reply m) (reply_of m (supplied_sum given) body)) (supplied_sum given))
-  answer_is (WriteBlock kind body) = ap ToWriteBlock (outcome_answer (first_refusal (block_refusals m kind body)) w (with_live w (next_address m) (Some (supplied_sum given))) (next_address m, supplied_sum given))
-  answer_is (Release address) = ap ToRelease (outcome_answer {A = Unit {0}} (first_refusal (release_refusals m address)) w (with_live w address None) tt)
-  answer_is (Begin root) = ap ToBegin (outcome_answer (first_refusal (begin_refusals m (needed_of spell m root) root)) w (with_running w (Some (begun sh spell w root))) (needed_of spell m root))
+  answer_is (Append client request body) = ap ToAppend (outcome_answer (first_refusal (append_refusals m client request body))
+      w (with_prepare w (prepare_of m (supplied_sum given) client request body)) (m.head + 1, supplied_sum given))
+  answer_is (Stage client request body) = ap ToStage (outcome_answer (first_refusal (stage_refusals m client request body))
+      w (with_staged w (record { client = client; request = request; body = body })) (m.head + length m.staged + 1))
+  answer_is Flush =
+      ap ToFlush (outcome_answer (first_refusal (flush_refusals m)) w (with_group w (group_of m (supplied_sums given))) (length m.staged))
+  answer_is (Reply op body) = ap ToReply (outcome_answer (first_refusal (reply_refusals m op body))
+      w (with_reply w (place_of_reply m) (reply_of m (supplied_sum given) body)) (supplied_sum given))
+  answer_is (WriteBlock kind body) = ap ToWriteBlock (outcome_answer (first_refusal (block_refusals m kind body))
+      w (with_live w (next_address m) (Some (supplied_sum given))) (next_address m, supplied_sum given))
+  answer_is (Release address) =
+      ap ToRelease (outcome_answer {A = Unit {0}} (first_refusal (release_refusals m address)) w (with_live w address None) tt)
+  answer_is (Begin root) = ap ToBegin (outcome_answer (first_refusal (begin_refusals m (needed_of spell m root) root))
+      w (with_running w (Some (begun sh spell w root))) (needed_of spell m root))
   answer_is Advance = ap ToAdvance (step_is w.running)
   answer_is Scrub = ap ToScrub (check_is (to_check m))
   answer_is command = refl
 
 pub memory_law : MemoryLaw
-memory_law sh spell w u given c same = answer_is sh spell w given c ∙ ap (λ (m : Memory). answer_from spell m given c) same ∙ sym (answer_is sh spell u given c)
+memory_law sh spell w u given c same =
+    answer_is sh spell w given c ∙ ap (λ (m : Memory). answer_from spell m given c) same ∙ sym (answer_is sh spell u given c)
 
 -- ---- the order
 
@@ -112,7 +124,9 @@ module _ (m : Memory) (client request : ℕ) (body : List ℕ) where
 
   -- the tests after these
   abbrev last : List (Bool × AppendError)
-  last = (m.head - m.replies == 8, append.PipelineFull (m.head - m.replies)) ∷ (nat_lt (m.content.op + m.layout.slots) (m.head + 1), append.WalFull (m.head + 1) m.content.op) ∷ ((m.head == 2 ^ 62) || nat_lt (2 ^ 62) request, append.OpsSpent) ∷ (is_staged m, append.Staged (length m.staged)) ∷ []
+  last = (m.head - m.replies == 8, append.PipelineFull (m.head - m.replies))
+      ∷ (nat_lt (m.content.op + m.layout.slots) (m.head + 1), append.WalFull (m.head + 1) m.content.op)
+      ∷ ((m.head == 2 ^ 62) || nat_lt (2 ^ 62) request, append.OpsSpent) ∷ (is_staged m, append.Staged (length m.staged)) ∷ []
 
   abbrev after_pending : List (Bool × AppendError)
   after_pending = number_test ∷ last
@@ -123,21 +137,26 @@ module _ (m : Memory) (client request : ℕ) (body : List ℕ) where
   abbrev after_full : List (Bool × AppendError)
   after_full = repeated_test ∷ after_repeated
 
-  past_two : (o : Option AppendError) → 0 < client → length body ≤ message_room m.layout → first_refusal (full_test ∷ after_full) ≡ o → first_refusal (append_refusals m client request body) ≡ o
-  past_two o named fits more = skip zero_test (long_test ∷ full_test ∷ after_full) o (ne_eqb client 0 (λ same. omega arith)) (skip long_test (full_test ∷ after_full) o (le-ltb (message_room m.layout) (length body) fits) more)
+  past_two : (o : Option AppendError) → 0 < client → length body ≤ message_room m.layout
+      → first_refusal (full_test ∷ after_full) ≡ o → first_refusal (append_refusals m client request body) ≡ o
+  past_two o named fits more = skip zero_test (long_test ∷ full_test ∷ after_full) o (ne_eqb client 0 (λ same. omega arith))
+      (skip long_test (full_test ∷ after_full) o (le-ltb (message_room m.layout) (length body) fits) more)
 
   module _ (s : Session) (known : session ≡ Some s) where
     not_full : full_test.0 ≡ false
     not_full = ap (λ (o : Option Session). is_new o && (length m.sessions == m.layout.clients)) known
 
     is_repeated : request ≡ s.request → s.op ≤ m.replies → repeated_test.0 ≡ true
-    is_repeated same stored = ap (λ (o : Option Session). is_last_request request o && nat_le (last_op o) m.replies) known ∙ and_from (request == s.request) (nat_le s.op m.replies) (eq-eqb request s.request same) (le-leb s.op m.replies stored)
+    is_repeated same stored = ap (λ (o : Option Session). is_last_request request o && nat_le (last_op o) m.replies) known
+        ∙ and_from (request == s.request) (nat_le s.op m.replies) (eq-eqb request s.request same) (le-leb s.op m.replies stored)
 
     not_stored : m.replies < s.op → repeated_test.0 ≡ false
-    not_stored waits = ap (λ (o : Option Session). is_last_request request o && nat_le (last_op o) m.replies) known ∙ and_right (request == s.request) (nat_le s.op m.replies) (lt-leb s.op m.replies waits)
+    not_stored waits = ap (λ (o : Option Session). is_last_request request o && nat_le (last_op o) m.replies) known
+        ∙ and_right (request == s.request) (nat_le s.op m.replies) (lt-leb s.op m.replies waits)
 
     not_last : (request ≡ s.request → ⊥) → repeated_test.0 ≡ false
-    not_last apart = ap (λ (o : Option Session). is_last_request request o && nat_le (last_op o) m.replies) known ∙ and_left (request == s.request) (nat_le s.op m.replies) (ne_eqb request s.request apart)
+    not_last apart = ap (λ (o : Option Session). is_last_request request o && nat_le (last_op o) m.replies) known
+        ∙ and_left (request == s.request) (nat_le s.op m.replies) (ne_eqb request s.request apart)
 
     is_pending : m.replies < s.op → pending_test.0 ≡ true
     is_pending waits = ap (λ (o : Option Session). nat_lt m.replies (last_op o)) known ∙ lt-ltb m.replies s.op waits
@@ -146,45 +165,56 @@ module _ (m : Memory) (client request : ℕ) (body : List ℕ) where
     not_pending stored = ap (λ (o : Option Session). nat_lt m.replies (last_op o)) known ∙ le-ltb m.replies s.op stored
 
     is_numbered : s.request + 1 < request → number_test.0 ≡ true
-    is_numbered above = ap (λ (o : Option Session). not (request == next_request o)) known ∙ ap not (ne_eqb request (s.request + 1) (λ same. omega arith))
+    is_numbered above =
+        ap (λ (o : Option Session). not (request == next_request o)) known ∙ ap not (ne_eqb request (s.request + 1) (λ same. omega arith))
 
     repeats : request ≡ s.request → s.op ≤ m.replies → first_refusal (full_test ∷ after_full) ≡ Some (append.Repeated s.op)
-    repeats same stored = skip full_test after_full _ not_full (hit repeated_test after_repeated (is_repeated same stored) ∙ ap (λ (o : Option Session). Some (append.Repeated (last_op o))) known)
+    repeats same stored = skip full_test after_full _ not_full
+        (hit repeated_test after_repeated (is_repeated same stored) ∙ ap (λ (o : Option Session). Some (append.Repeated (last_op o))) known)
 
     waits : m.replies < s.op → first_refusal (full_test ∷ after_full) ≡ Some (append.ReplyPending s.op)
-    waits late = skip full_test after_full _ not_full (skip repeated_test after_repeated _ (not_stored late) (hit pending_test after_pending (is_pending late) ∙ ap (λ (o : Option Session). Some (append.ReplyPending (last_op o))) known))
+    waits late = skip full_test after_full _ not_full (skip repeated_test after_repeated _ (not_stored late)
+        (hit pending_test after_pending (is_pending late) ∙ ap (λ (o : Option Session). Some (append.ReplyPending (last_op o))) known))
 
     orders : s.op ≤ m.replies → s.request + 1 < request → first_refusal (full_test ∷ after_full) ≡ Some (append.RequestOrder (s.request + 1))
-    orders stored above = skip full_test after_full _ not_full (skip repeated_test after_repeated _ (not_last (λ same. omega arith)) (skip pending_test after_pending _ (not_pending stored)
+    orders stored above = skip full_test after_full _ not_full
+        (skip repeated_test after_repeated _ (not_last (λ same. omega arith)) (skip pending_test after_pending _ (not_pending stored)
         (hit number_test last (is_numbered above) ∙ ap (λ (o : Option Session). Some (append.RequestOrder (next_request o))) known)))
 
   appends : AppendsInOrder m client request body
   appends = record {
     zero = λ same. hit zero_test (long_test ∷ full_test ∷ after_full) (eq-eqb client 0 same);
-    long = λ named long. skip zero_test (long_test ∷ full_test ∷ after_full) _ (ne_eqb client 0 (λ same. omega arith)) (hit long_test (full_test ∷ after_full) (lt-ltb (message_room m.layout) (length body) long));
-    full = λ named fits new full. past_two _ named fits (hit full_test after_full (and_from (is_new session) (length m.sessions == m.layout.clients) (ap is_new new) (eq-eqb (length m.sessions) m.layout.clients full)));
+    long = λ named long. skip zero_test (long_test ∷ full_test ∷ after_full) _ (ne_eqb client 0 (λ same. omega arith))
+        (hit long_test (full_test ∷ after_full) (lt-ltb (message_room m.layout) (length body) long));
+    full = λ named fits new full. past_two _ named fits (hit full_test after_full (and_from
+        (is_new session) (length m.sessions == m.layout.clients) (ap is_new new) (eq-eqb (length m.sessions) m.layout.clients full)));
     repeated = λ s named fits known same stored. past_two _ named fits (repeats s known same stored);
     pending = λ s named fits known late. past_two _ named fits (waits s known late);
     number = λ s named fits known stored above. past_two _ named fits (orders s known stored above);
     first = λ e some. first_refuses (request_refusals m client request body) ((is_staged m, append.Staged (length m.staged)) ∷ []) e some;
-    staged = λ none some. behind_decides (request_refusals m client request body) ((is_staged m, append.Staged (length m.staged)) ∷ []) none ∙ hit (is_staged m, append.Staged (length m.staged)) [] (lt-ltb 0 (length m.staged) some);
+    staged = λ none some. behind_decides (request_refusals m client request body) ((is_staged m, append.Staged (length m.staged)) ∷ []) none
+        ∙ hit (is_staged m, append.Staged (length m.staged)) [] (lt-ltb 0 (length m.staged) some);
   }
 
   others : OthersInOrder m request body
   others = record {
     unstaged = λ none. hit (not (is_staged m), flush.NothingStaged) [] (ap (λ (rs : List Request). not (nat_lt 0 (length rs))) none);
     nothing = λ same. hit (m.replies == m.head, reply.NothingPending m.head) ((not (request == m.replies + 1), reply.ReplyOrder (m.replies + 1)) ∷ (long_test.0, reply.BodyTooLong (message_room m.layout)) ∷ []) (eq-eqb m.replies m.head same);
-    kind = λ same. hit (request == 0, block.KindZero) ((nat_lt (block_room m.layout) (length body), block.BodyTooLong (block_room m.layout)) ∷ (length (free_of m) == 0, block.GridFull m.layout.blocks) ∷ []) (eq-eqb request 0 same);
+    kind = λ same. hit (request == 0, block.KindZero) ((nat_lt (block_room m.layout) (length body), block.BodyTooLong (block_room m.layout))
+        ∷ (length (free_of m) == 0, block.GridFull m.layout.blocks) ∷ []) (eq-eqb request 0 same);
     running = λ r at. ap (λ (o : Option Course). first_refusal (begin_refusals (record m { running = o }) request body)) at;
-    long = λ at long. skip (is_running m.running, begin.Running (steps_left m.running)) (begin_long ∷ begin_last) _ (ap is_running at) (hit begin_long begin_last (lt-ltb 1024 (length body) long));
-    unknown = λ new. hit (is_new session_there, lookup.NoClient) ((nat_lt m.replies (last_op session_there), lookup.ReplyPending (last_op session_there)) ∷ []) (ap is_new new);
+    long = λ at long. skip (is_running m.running, begin.Running (steps_left m.running))
+        (begin_long ∷ begin_last) _ (ap is_running at) (hit begin_long begin_last (lt-ltb 1024 (length body) long));
+    unknown = λ new. hit (is_new session_there, lookup.NoClient)
+        ((nat_lt m.replies (last_op session_there), lookup.ReplyPending (last_op session_there)) ∷ []) (ap is_new new);
   }
     where
       begin_long : Bool × BeginError
       begin_long = (nat_lt 1024 (length body), begin.RootTooLong 1024)
 
       begin_last : List (Bool × BeginError)
-      begin_last = (nat_lt (length (free_of m)) request, begin.GridFull request (length (free_of m))) ∷ (m.content.sequence == 2 ^ 62, begin.SequenceSpent) ∷ []
+      begin_last = (nat_lt (length (free_of m)) request, begin.GridFull request (length (free_of m)))
+          ∷ (m.content.sequence == 2 ^ 62, begin.SequenceSpent) ∷ []
 
       session_there : Option Session
       session_there = session_of_client request m.sessions

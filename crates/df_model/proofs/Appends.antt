@@ -16,11 +16,10 @@ pub record IsAllowed (m : Memory) (client request : ℕ) (session : Option Sessi
   pub op : m.head ≡ 2 ^ 62 → ⊥
   pub request_to : request ≤ 2 ^ 62
 
-pub allowed : (m : Memory) (client request : ℕ) (body : List ℕ) → first_refusal (request_refusals m client request body) ≡ None → IsAllowed m client request (session_of_client client m.sessions)
-allowed m client request body none =
-    let tests = all_pass (request_refusals m client request body) none in
-    let last = or_parts _ _ tests.1.1.1.1.1.1.1.1.0 in
-    record {
+pub allowed : (m : Memory) (client request : ℕ) (body : List ℕ)
+    → first_refusal (request_refusals m client request body) ≡ None → IsAllowed m client request (session_of_client client m.sessions)
+allowed m client request body none = let tests = all_pass (request_refusals m client request body) none in
+    let last = or_parts _ _ tests.1.1.1.1.1.1.1.1.0 in record {
       named = eqb-false _ _ tests.0;
       places = λ new. eqb-false _ _ (and_false _ _ tests.1.1.0 new);
       answered = ltb-false _ _ tests.1.1.1.1.0;
@@ -32,10 +31,12 @@ allowed m client request body none =
     }
 
 -- so its client may ask
-pub allowed_asks : (m : Memory) (h : Header) (body : List ℕ) → length m.sessions ≤ m.layout.clients → m.replies ≤ h.mark → IsAllowed m h.client h.request (session_of_client h.client m.sessions) → MayAsk m.layout.clients h m.sessions
+pub allowed_asks : (m : Memory) (h : Header) (body : List ℕ) → length m.sessions ≤ m.layout.clients
+    → m.replies ≤ h.mark → IsAllowed m h.client h.request (session_of_client h.client m.sessions) → MayAsk m.layout.clients h m.sessions
 allowed_asks m h body few mark is = go (session_of_client h.client m.sessions) refl is
   where
-    go : (o : Option Session) → session_of_client h.client m.sessions ≡ o → IsAllowed m h.client h.request o → MayAsk m.layout.clients h m.sessions
+    go : (o : Option Session)
+        → session_of_client h.client m.sessions ≡ o → IsAllowed m h.client h.request o → MayAsk m.layout.clients h m.sessions
     go None at fine = new_asks m.layout.clients h m.sessions at (let full = fine.places refl in omega arith) fine.next
     go (Some s) at fine = known_asks m.layout.clients h m.sessions s at few fine.next (omega (arith, fine.answered, mark))
 
@@ -50,13 +51,13 @@ no_requests [] none = refl
 no_requests (r ∷ rs) none = absurd (omega (arith, ltb-false 0 (length (r ∷ rs)) none))
 
 -- an append isn't refused: neither is its request, and nothing is staged
-pub both_pass : (m : Memory) (client request : ℕ) (body : List ℕ) → first_refusal (append_refusals m client request body) ≡ None → (first_refusal (request_refusals m client request body) ≡ None) × (m.staged ≡ [])
-both_pass m client request body none =
-    let tests = (is_staged m, append.Staged (length m.staged)) ∷ [] in
-    let both = pass_both (request_refusals m client request body) tests none in
-    (both.0, no_requests m.staged (all_pass tests both.1).0)
+pub both_pass : (m : Memory) (client request : ℕ) (body : List ℕ) → first_refusal (append_refusals m client request body) ≡ None
+    → (first_refusal (request_refusals m client request body) ≡ None) × (m.staged ≡ [])
+both_pass m client request body none = let tests = (is_staged m, append.Staged (length m.staged)) ∷ [] in
+    let both = pass_both (request_refusals m client request body) tests none in (both.0, no_requests m.staged (all_pass tests both.1).0)
 
-module _ (sh : Shape) (spell : Parts → List ℕ) (w : Work) (sum client request : ℕ) (body : List ℕ) (work : IsWork sh spell w) (none : first_refusal (append_refusals (memory_of sh spell w) client request body) ≡ None) where
+module _ (sh : Shape) (spell : Parts → List ℕ) (w : Work) (sum client request : ℕ) (body : List ℕ)
+    (work : IsWork sh spell w) (none : first_refusal (append_refusals (memory_of sh spell w) client request body) ≡ None) where
   abbrev v : View
   v = w.view
 
@@ -86,27 +87,26 @@ module _ (sh : Shape) (spell : Parts → List ℕ) (w : Work) (sum client reques
   head_is = omega (arith, length-append v.tail (p ∷ []))
 
   lawful : client < 2 ^ 128 → AreLawful sh.layout.clients (sessions (appended v (p ∷ [])))
-  lawful fits = subst (AreLawful sh.layout.clients) (sym (sessions-append v.checkpoint.parts.sessions v.tail (p ∷ []))) (noted_lawful sh.layout.clients p.header (sessions v) work.sessions asks (record {
-    client = ((let named = is.named in omega arith), fits);
-    request = (omega (arith, is.next, some_request (session_of_client client (sessions v))), is.request_to);
-    op = (omega arith, omega (arith, is.op, work.view.head_to));
-  }))
+  lawful fits = subst (AreLawful sh.layout.clients) (sym (sessions-append v.checkpoint.parts.sessions v.tail (p ∷ [])))
+      (noted_lawful sh.layout.clients p.header (sessions v) work.sessions asks (record {
+        client = ((let named = is.named in omega arith), fits);
+        request = (omega (arith, is.next, some_request (session_of_client client (sessions v))), is.request_to);
+        op = (omega arith, omega (arith, is.op, work.view.head_to));
+      }))
 
   waiting : AreWaiting (appended v (p ∷ [])) (w.waiting ++ sum ∷ [])
   waiting = record {
     count = omega (arith, work.waiting.count, length-append w.waiting (sum ∷ []), head_is);
     each = λ i q at op. elim (in_either q v.tail (p ∷ []) at) [
       | inl old ↦ get_front w.waiting sum i q.header.checksum (work.waiting.each i q old op)
-      | inr new ↦
-          let one : q ≡ p = in_single q p new in
-          let op_is : q.header.op ≡ head v + 1 = ap (λ (x : Message). x.header.op) one in
+      | inr new ↦ let one : q ≡ p = in_single q p new in let op_is : q.header.op ≡ head v + 1 = ap (λ (x : Message). x.header.op) one in
           get_last w.waiting sum i (omega (arith, op, op_is, work.waiting.count)) ∙ ap (λ (x : Message). Some x.header.checksum) (sym one)
     ];
   }
 
   capture : (r : Running) → IsCapture sh spell v r → IsCapture sh spell (appended v (p ∷ [])) r
-  capture r old =
-      let same : take (r.op - v.checkpoint.content.op) (v.tail ++ p ∷ []) ≡ take (r.op - v.checkpoint.content.op) v.tail = take-append-le (r.op - v.checkpoint.content.op) v.tail (p ∷ []) (omega (arith, old.op_to, old.op_from)) in
+  capture r old = let same : take (r.op - v.checkpoint.content.op) (v.tail ++ p ∷ []) ≡ take (r.op - v.checkpoint.content.op) v.tail =
+      take-append-le (r.op - v.checkpoint.content.op) v.tail (p ∷ []) (omega (arith, old.op_to, old.op_from)) in
       capture_on sh spell v r old (v.tail ++ p ∷ []) v.replies (appended v (p ∷ [])).stored same
       (λ q at low. elim (in_either q v.tail (p ∷ []) at) [ inl before ↦ old.ends q before low | inr new ↦ absurd (omega (arith, ap (λ (x : Message). x.header.op) (in_single q p new), old.op_to)) ])
       (omega (arith, old.op_to, head_is))

@@ -6,17 +6,16 @@ use Rattle.df_model.{specs.{Work.{Work, opened, raised}, Memory.{Memory, memory_
 -- ---- what may be raised
 
 -- the superblock of a boot update, over a state whose superblock is of version 2
-may_boot : (sh : Shape) (spell : Parts → List ℕ) (w : Work) (sum : ℕ) → IsRecordable w.view → w.view.checkpoint.content.version ≡ 2 → boot_of w.view < 2 ^ 62 → MayBoot w.view (boot_content (memory_of sh spell w) sum)
-may_boot sh spell w sum can second unspent =
-    let c : Content = w.view.checkpoint.content in
-    let m : Memory = memory_of sh spell w in
-    let none : c.op - c.op ≡ 0 = omega arith in
-    may_raise w.view sum m.head_checksum (named_sums m) second unspent
-    (records_now sh spell w can (record c { checksum = sum; boot = boot_of w.view + 1 }) (omega arith) (omega arith) (sym (ap (λ (n : ℕ). last_checksum c.op_checksum (take n w.view.tail)) none)))
+may_boot : (sh : Shape) (spell : Parts → List ℕ) (w : Work) (sum : ℕ) → IsRecordable w.view
+    → w.view.checkpoint.content.version ≡ 2 → boot_of w.view < 2 ^ 62 → MayBoot w.view (boot_content (memory_of sh spell w) sum)
+may_boot sh spell w sum can second unspent = let c : Content = w.view.checkpoint.content in let m : Memory = memory_of sh spell w in
+    let none : c.op - c.op ≡ 0 = omega arith in may_raise w.view sum m.head_checksum (named_sums m) second unspent
+    (records_now sh spell w can (record c { checksum = sum; boot = boot_of w.view + 1 })
+    (omega arith) (omega arith) (sym (ap (λ (n : ℕ). last_checksum c.op_checksum (take n w.view.tail)) none)))
 
 pub boot_may_law : BootMayLaw
-boot_may_law sh spell image v sum codec places of found unspent =
-    may_boot sh spell (opened sh image (as_version 2 v)) sum (recordable sh 2 v (found_sound sh image v of found) (found_few sh spell image v codec of found) places) refl unspent
+boot_may_law sh spell image v sum codec places of found unspent = may_boot sh spell (opened sh image (as_version 2 v))
+    sum (recordable sh 2 v (found_sound sh image v of found) (found_few sh spell image v codec of found) places) refl unspent
 
 -- nothing more is known of blocks
 raised_knows : (w : Work) (d : Content) → KnowsNoMore w (raised w d)
@@ -36,16 +35,15 @@ raised_law sh spell w sum work unspent = record {
     sessions = work.sessions;
     grid = work.grid;
     waiting = record { count = work.waiting.count; each = work.waiting.each };
-    staged =
-        let m = memory_of sh spell w in
-        let n = memory_of sh spell (raised w d) in
-        let top = head w.view in
-        staged_on sh w.view (booted w.view d) m n (top + 1) (top + length w.staged) (top + 1) (top + length w.staged) (top + 1) (top + 1) m.head_checksum n.head_checksum w.staged [] [] refl (omega arith) (omega arith) refl (omega arith) refl work.staged;
+    staged = let m = memory_of sh spell w in let n = memory_of sh spell (raised w d) in let top = head w.view in
+        staged_on sh w.view (booted w.view d) m n (top + 1) (top + length w.staged) (top + 1) (top + length w.staged) (top
+        + 1) (top + 1) m.head_checksum n.head_checksum w.staged [] [] refl (omega arith) (omega arith) refl (omega arith) refl work.staged;
     running = λ r at. capture_raised sh spell w sum r (work.running r at);
     one = one_fewer w (raised w d) (raised_knows w d) work.one;
     sums = work.sums;
     few = work.few;
-    clear = λ r at. each_weaker (IsClearAddress w.live w.view.checkpoint) (IsClearAddress w.live (booted w.view d).checkpoint) (λ a free. record { dead = free.dead; unreferenced = free.unreferenced; no_trailer = free.no_trailer }) r.left (work.clear r at);
+    clear = λ r at. each_weaker (IsClearAddress w.live w.view.checkpoint) (IsClearAddress w.live (booted w.view d).checkpoint) (λ a free.
+        record { dead = free.dead; unreferenced = free.unreferenced; no_trailer = free.no_trailer }) r.left (work.clear r at);
   };
   memory = refl;
   bare = record { content = may.is.same; chain = refl; parts = refl; tail = refl; replies = refl; stored = λ k. refl };
@@ -55,25 +53,29 @@ raised_law sh spell w sum work unspent = record {
     d = boot_content (memory_of sh spell w) sum
 
     may : MayBoot w.view d
-    may = may_boot sh spell w sum (recordable sh w.view.checkpoint.content.version w.view work.view work.sessions.few work.version.places) (work.view.checkpoint.tests.version ∙ work.version.version) unspent
+    may = may_boot sh spell w sum (recordable sh w.view.checkpoint.content.version w.view work.view work.sessions.few work.version.places)
+        (work.view.checkpoint.tests.version ∙ work.version.version) unspent
 
 -- ---- referenced blocks
 
 -- what stands stands at each moment, whichever of the two views is left
-pub stands_each : (sh : Shape) (v : View) (d : Content) (ss : List Step) (log : UnitLog) → AtEach (IsGoodLog sh v (booted v d)) log ss → AtEach (λ l. IsStanding l v × EachLeft l (λ image. Stands image v)) log ss → AtEach (IsGoodWhole sh v (booted v d)) log ss
+pub stands_each : (sh : Shape) (v : View) (d : Content) (ss : List Step) (log : UnitLog) → AtEach (IsGoodLog sh v (booted v d)) log ss
+    → AtEach (λ l. IsStanding l v × EachLeft l (λ image. Stands image v)) log ss → AtEach (IsGoodWhole sh v (booted v d)) log ss
 stands_each sh v d [] log good stands = record { safe = good.safe; left = λ image left chance. elim (good.left image left chance) [ inl holds ↦ inl (holds, stands.1 image left chance) | inr holds ↦ inr (holds, stands.1 image left chance) ] }
 stands_each sh v d (s ∷ ss) log good stands = (
   record { safe = good.0.safe; left = λ image left chance. elim (good.0.left image left chance) [ inl holds ↦ inl (holds, stands.0.1 image left chance) | inr holds ↦ inr (holds, stands.0.1 image left chance) ] },
   stands_each sh v d ss (after_step s log) good.1 stands.1,
 )
 
-pub stands_last : (v : View) (ss : List Step) (log : UnitLog) → AtEach (λ l. IsStanding l v × EachLeft l (λ image. Stands image v)) log ss → IsStanding (after_steps ss log) v
+pub stands_last : (v : View) (ss : List Step) (log : UnitLog)
+    → AtEach (λ l. IsStanding l v × EachLeft l (λ image. Stands image v)) log ss → IsStanding (after_steps ss log) v
 stands_last v [] log each = each.0
 stands_last v (s ∷ ss) log each = stands_last v ss (after_step s log) each.1
 
 -- ---- the update
 
-module _ (sh : Shape) (spell : Parts → List ℕ) (log : UnitLog) (w : Work) (sum : ℕ) (mended : IsMendedFor sh spell log w) (unspent : boot_of w.view < 2 ^ 62) (puts : PutsCopies (boot_content (memory_of sh spell w) sum)) where
+module _ (sh : Shape) (spell : Parts → List ℕ) (log : UnitLog) (w : Work) (sum : ℕ) (mended : IsMendedFor sh spell log w)
+    (unspent : boot_of w.view < 2 ^ 62) (puts : PutsCopies (boot_content (memory_of sh spell w) sum)) where
   abbrev v : View
   v = w.view
 
@@ -97,23 +99,17 @@ module _ (sh : Shape) (spell : Parts → List ℕ) (log : UnitLog) (w : Work) (s
 
   clear : IsClearOf (settled later) (booted v d)
   clear = (low_steps d.boot (head v) (update_steps puts) log (low_update d.boot (head v) d puts) (record {
-    settled = λ s p at own.
-        let a = mended.mended.rests.old (PreparePlace s) (PrepareUnit p) at in
-        let same : a.0 ≡ p = (let e = a.1 in cc) in
-        absurd (omega (arith, a.2.boot, ap (λ (q : Message). q.header.boot) same, may.is.boot));
+    settled = λ s p at own. let a = mended.mended.rests.old (PreparePlace s) (PrepareUnit p) at in
+        let same : a.0 ≡ p = (let e = a.1 in cc) in absurd (omega (arith, a.2.boot, ap (λ (q : Message). q.header.boot) same, may.is.boot));
     shown = λ s p is own. absurd (omega (arith, (prepare_agrees sh (now log) v mended.mended.rests.holds.bears.sound mended.mended.rests.holds.bears.agrees s p is).boot, may.is.boot));
   })).settled
 
   whole : IsWhole sh (now later) (booted v d)
-  whole =
-      let c : Checkpoint = record { content = d; chain = v.checkpoint.chain; parts = v.checkpoint.parts } in
+  whole = let c : Checkpoint = record { content = d; chain = v.checkpoint.chain; parts = v.checkpoint.parts } in
       let after = whole_update_law sh (now log) v c puts mended.mended.whole in
-      let none : v.checkpoint.content.op - v.checkpoint.content.op ≡ 0 = omega arith in
-      record {
+      let none : v.checkpoint.content.op - v.checkpoint.content.op ≡ 0 = omega arith in record {
         copies = after.copies;
-        headers = λ s below.
-            let h = after.headers s below in
-            (h.0, h.1, λ p at slot. h.2 p (rw none at) slot);
+        headers = λ s below. let h = after.headers s below in (h.0, h.1, λ p at slot. h.2 p (rw none at) slot);
       }
 
   tidy : IsTidy sh later (booted v d)
@@ -131,8 +127,7 @@ module _ (sh : Shape) (spell : Parts → List ℕ) (log : UnitLog) (w : Work) (s
   pub update_backs : IsBacked log w → BacksOn sh log w u (update_steps puts)
   update_backs backed =
       let stands = stands_law log v (update_steps puts) backed.standing (spare_all v (update_steps puts) (update_no_blocks d puts)) in
-      let last = stands_last v (update_steps puts) log stands in
-      record {
+      let last = stands_last v (update_steps puts) log stands in record {
         stands = record { moments = stands_each sh v d (update_steps puts) log update.leads.moments stands; standing = record { shown = last.shown; firm = last.firm } };
         backed = record {
           standing = record { shown = last.shown; firm = last.firm };
@@ -142,7 +137,5 @@ module _ (sh : Shape) (spell : Parts → List ℕ) (log : UnitLog) (w : Work) (s
       }
 
 pub boot_command_law : BootCommandLaw
-boot_command_law sh spell log w sum steps mended unspent does =
-    let u = raised w (boot_content (memory_of sh spell w) sum) in
-    rw does.are
+boot_command_law sh spell log w sum steps mended unspent does = let u = raised w (boot_content (memory_of sh spell w) sum) in rw does.are
     (update_leads sh spell log w sum mended unspent does.puts, update_backs sh spell log w sum mended unspent does.puts)

@@ -9,14 +9,16 @@ turn_from op parent [] q turn at = absurd at
 turn_from op parent (p ∷ ps) q turn (inl here) = omega (arith, turn.0, ap (λ (x : Message). x.header.op) here)
 turn_from op parent (p ∷ ps) q turn (inr there) = omega (arith, turn_from (op + 1) p.header.checksum ps q turn.2 there)
 
-turn_at : (op parent : ℕ) (ps : List Message) (q : Message) (j : ℕ) → AreInTurn op parent ps → In q ps → q.header.op ≡ op + j → slice_get (map sum_of_message ps) j ≡ Some q.header.checksum
+turn_at : (op parent : ℕ) (ps : List Message) (q : Message) (j : ℕ)
+    → AreInTurn op parent ps → In q ps → q.header.op ≡ op + j → slice_get (map sum_of_message ps) j ≡ Some q.header.checksum
 turn_at op parent [] q j turn at is = absurd at
 turn_at op parent (p ∷ ps) q zero turn (inl here) is = ap (λ (x : Message). Some x.header.checksum) (sym here)
 turn_at op parent (p ∷ ps) q (suc j) turn (inl here) is = absurd (omega (arith, turn.0, ap (λ (x : Message). x.header.op) here, is))
 turn_at op parent (p ∷ ps) q zero turn (inr there) is = absurd (omega (arith, turn_from (op + 1) p.header.checksum ps q turn.2 there, is))
 turn_at op parent (p ∷ ps) q (suc j) turn (inr there) is = turn_at (op + 1) p.header.checksum ps q j turn.2 there (omega (arith, is))
 
-module _ (sh : Shape) (spell : Parts → List ℕ) (w : Work) (sums : List ℕ) (work : IsWork sh spell w) (none : first_refusal (flush_refusals (memory_of sh spell w)) ≡ None) where
+module _ (sh : Shape) (spell : Parts → List ℕ)
+    (w : Work) (sums : List ℕ) (work : IsWork sh spell w) (none : first_refusal (flush_refusals (memory_of sh spell w)) ≡ None) where
   abbrev v : View
   v = w.view
 
@@ -36,7 +38,8 @@ module _ (sh : Shape) (spell : Parts → List ℕ) (w : Work) (sums : List ℕ) 
   long = length_in m (head v + 1) (head v + length w.staged) (head v + 1) m.head_checksum w.staged sums
 
   before : AreStaged sh v ps
-  before = staged_on sh v v m m (head v + 1) (head v + length w.staged) (head v + 1) (head v + length w.staged) (head v + 1) (head v + 1) m.head_checksum m.head_checksum w.staged [] sums refl (omega arith) (omega arith) refl (omega arith) refl work.staged
+  before = staged_on sh v v m m (head v + 1) (head v + length w.staged) (head v + 1) (head v + length w.staged) (head v + 1)
+      (head v + 1) m.head_checksum m.head_checksum w.staged [] sums refl (omega arith) (omega arith) refl (omega arith) refl work.staged
 
   turn : AreInTurn (head v + 1) m.head_checksum ps
   turn = in_turn m (head v + 1) (head v + length w.staged) (head v + 1) m.head_checksum w.staged sums
@@ -46,8 +49,7 @@ module _ (sh : Shape) (spell : Parts → List ℕ) (w : Work) (sums : List ℕ) 
     is = record {
       some = omega (arith, some, long);
       turn = turn;
-      stamped = λ q at.
-          let is = member m (head v + 1) (head v + length w.staged) (head v + 1) m.head_checksum w.staged sums q at in
+      stamped = λ q at. let is = member m (head v + 1) (head v + length w.staged) (head v + 1) m.head_checksum w.staged sums q at in
           record { mark = is.mark; checkpoint = is.checkpoint; boot = is.boot; group = is.group; group_last = omega (arith, is.group_last, long) };
     };
     room = before.room;
@@ -70,16 +72,15 @@ module _ (sh : Shape) (spell : Parts → List ℕ) (w : Work) (sums : List ℕ) 
     count = omega (arith, work.waiting.count, length-append w.waiting (map sum_of_message ps), length-map ps sum_of_message, head_is);
     each = λ i q at op. elim (in_either q v.tail ps at) [
       | inl old ↦ get_before w.waiting (map sum_of_message ps) i q.header.checksum (work.waiting.each i q old op)
-      | inr new ↦
-          let from = turn_from (head v + 1) m.head_checksum ps q turn new in
-          let j : ℕ = i - length w.waiting in
-          get_behind w.waiting (map sum_of_message ps) i j q.header.checksum (omega (arith, from, op, work.waiting.count)) (turn_at (head v + 1) m.head_checksum ps q j turn new (omega (arith, from, op, work.waiting.count)))
+      | inr new ↦ let from = turn_from (head v + 1) m.head_checksum ps q turn new in let j : ℕ = i - length w.waiting in
+          get_behind w.waiting (map sum_of_message ps) i j q.header.checksum (omega (arith, from, op, work.waiting.count))
+          (turn_at (head v + 1) m.head_checksum ps q j turn new (omega (arith, from, op, work.waiting.count)))
     ];
   }
 
   capture : (r : Running) → IsCapture sh spell v r → IsCapture sh spell later r
-  capture r old =
-      let same : take (r.op - v.checkpoint.content.op) (v.tail ++ ps) ≡ take (r.op - v.checkpoint.content.op) v.tail = take-append-le (r.op - v.checkpoint.content.op) v.tail ps (omega (arith, old.op_to, old.op_from)) in
+  capture r old = let same : take (r.op - v.checkpoint.content.op) (v.tail ++ ps) ≡ take (r.op - v.checkpoint.content.op) v.tail =
+      take-append-le (r.op - v.checkpoint.content.op) v.tail ps (omega (arith, old.op_to, old.op_from)) in
       capture_on sh spell v r old (v.tail ++ ps) v.replies later.stored same
       (λ q at low. elim (in_either q v.tail ps at) [ inl before ↦ old.ends q before low | inr new ↦ absurd (omega (arith, turn_from (head v + 1) m.head_checksum ps q turn new, old.op_to)) ])
       (omega (arith, old.op_to, head_is))

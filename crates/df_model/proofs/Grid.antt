@@ -41,9 +41,11 @@ each_case : (P : ℕ → Type 0) (a : ℕ) (rest : List ℕ) (h : Bool) → (h �
 each_case P a rest true here each = each
 each_case P a rest false here each = (here refl, each)
 
-pub free_each : (P : ℕ → Type 0) (held : ℕ → Bool) (a n : ℕ) → ((x : ℕ) → a ≤ x → x < a + n → held x ≡ false → P x) → AtEachOf P (filter (λ x. not (held x)) (range_with_len a n))
+pub free_each : (P : ℕ → Type 0) (held : ℕ → Bool) (a n : ℕ)
+    → ((x : ℕ) → a ≤ x → x < a + n → held x ≡ false → P x) → AtEachOf P (filter (λ x. not (held x)) (range_with_len a n))
 free_each P held a zero all = tt
-free_each P held a (suc n) all = each_case P a (filter (λ x. not (held x)) (range_with_len (a + 1) n)) (held a) (all a (omega arith) (omega arith)) (free_each P held (a + 1) n (λ x from to. all x (omega arith) (omega arith)))
+free_each P held a (suc n) all = each_case P a (filter (λ x. not (held x)) (range_with_len (a + 1) n))
+    (held a) (all a (omega arith) (omega arith)) (free_each P held (a + 1) n (λ x from to. all x (omega arith) (omega arith)))
 
 -- an address that isn't held
 pub record IsFree (sh : Shape) (w : Work) (a : ℕ) : Type 0 where
@@ -51,7 +53,8 @@ pub record IsFree (sh : Shape) (w : Work) (a : ℕ) : Type 0 where
   pub unheld : is_held w a ≡ false
 
 pub are_free : (sh : Shape) (spell : Parts → List ℕ) (w : Work) → AtEachOf (IsFree sh w) (free_of (memory_of sh spell w))
-are_free sh spell w = free_each (IsFree sh w) (is_held_in (blocks_of sh w)) 1 sh.layout.blocks (λ x from to unheld. record { inside = (from, omega arith); unheld = sym (held_is sh w x from to) ∙ unheld })
+are_free sh spell w = free_each (IsFree sh w) (is_held_in (blocks_of sh w)) 1 sh.layout.blocks (λ x from to unheld.
+    record { inside = (from, omega arith); unheld = sym (held_is sh w x from to) ∙ unheld })
 
 -- ---- what isn't held
 
@@ -76,26 +79,29 @@ pub record IsNowhere (w : Work) (a : ℕ) : Type 0 where
   pub written : (r : Running) (b : Block) → w.running ≡ Some r → InChain a b r.written → ⊥
 
 pub nowhere : (w : Work) (a : ℕ) → is_held w a ≡ false → IsNowhere w a
-nowhere w a unheld =
-    let one = or_parts (is_known (w.live a)) (is_captured a w.running || (is_known (w.view.checkpoint.parts.references a) || is_of a w.view.checkpoint.chain)) unheld in
+nowhere w a unheld = let one = or_parts (is_known (w.live a))
+    (is_captured a w.running || (is_known (w.view.checkpoint.parts.references a) || is_of a w.view.checkpoint.chain)) unheld in
     let two = or_parts (is_captured a w.running) (is_known (w.view.checkpoint.parts.references a) || is_of a w.view.checkpoint.chain) one.1 in
-    let three = or_parts (is_known (w.view.checkpoint.parts.references a)) (is_of a w.view.checkpoint.chain) two.1 in
-    record {
+    let three = or_parts (is_known (w.view.checkpoint.parts.references a)) (is_of a w.view.checkpoint.chain) two.1 in record {
       live = known_none (w.live a) one.0;
       durable = known_none (w.view.checkpoint.parts.references a) three.0;
       chain = λ b at. of_none a b w.view.checkpoint.chain three.1 at;
-      captured = λ r at. known_none (r.parts.references a) (or_parts (is_known (r.parts.references a)) (is_of a r.written || is_in a r.left) (sym (ap (is_captured a) at) ∙ two.0)).0;
-      written = λ r b at. of_none a b r.written (or_parts (is_of a r.written) (is_in a r.left) (or_parts (is_known (r.parts.references a)) (is_of a r.written || is_in a r.left) (sym (ap (is_captured a) at) ∙ two.0)).1).0;
+      captured = λ r at. known_none (r.parts.references a)
+          (or_parts (is_known (r.parts.references a)) (is_of a r.written || is_in a r.left) (sym (ap (is_captured a) at) ∙ two.0)).0;
+      written = λ r b at. of_none a b r.written (or_parts (is_of a r.written) (is_in a r.left)
+          (or_parts (is_known (r.parts.references a)) (is_of a r.written || is_in a r.left) (sym (ap (is_captured a) at) ∙ two.0)).1).0;
     }
 
 -- ---- what is held
 
 pub live_held : (w : Work) (a c : ℕ) → w.live a ≡ Some c → is_held w a ≡ true
-live_held w a c is = or_left (is_known (w.live a)) (is_captured a w.running || (is_known (w.view.checkpoint.parts.references a) || is_of a w.view.checkpoint.chain)) (known_some (w.live a) c is)
+live_held w a c is = or_left (is_known (w.live a)) (is_captured
+    a w.running || (is_known (w.view.checkpoint.parts.references a) || is_of a w.view.checkpoint.chain)) (known_some (w.live a) c is)
 
 -- ---- what holds of each of a list
 
-in_case : (P : ℕ → Type 0) (x : ℕ) (xs : List ℕ) (a : ℕ) (b : Bool) → (a == x) ≡ b → P x → (is_in a xs ≡ true → P a) → (b || is_in a xs) ≡ true → P a
+in_case : (P : ℕ → Type 0) (x : ℕ) (xs : List ℕ) (a : ℕ) (b : Bool)
+    → (a == x) ≡ b → P x → (is_in a xs ≡ true → P a) → (b || is_in a xs) ≡ true → P a
 in_case P x xs a true same here more is = subst P (sym (eqb-true a x same)) here
 in_case P x xs a false same here more is = more is
 
@@ -110,6 +116,8 @@ each_with P Q (x ∷ xs) weaker each = (weaker x (or_left (x == x) (is_in x xs) 
 
 -- the trailer's addresses are held
 pub left_held : (w : Work) (r : Running) (a : ℕ) → w.running ≡ Some r → is_in a r.left ≡ true → is_held w a ≡ true
-left_held w r a at is = or_right (is_known (w.live a)) (is_captured a w.running || (is_known (w.view.checkpoint.parts.references a) || is_of a w.view.checkpoint.chain))
+left_held w r a at is = or_right
+    (is_known (w.live a)) (is_captured a w.running || (is_known (w.view.checkpoint.parts.references a) || is_of a w.view.checkpoint.chain))
     (or_left (is_captured a w.running) (is_known (w.view.checkpoint.parts.references a) || is_of a w.view.checkpoint.chain)
-    (ap (is_captured a) at ∙ or_right (is_known (r.parts.references a)) (is_of a r.written || is_in a r.left) (or_right (is_of a r.written) (is_in a r.left) is)))
+    (ap (is_captured a) at
+    ∙ or_right (is_known (r.parts.references a)) (is_of a r.written || is_in a r.left) (or_right (is_of a r.written) (is_in a r.left) is)))

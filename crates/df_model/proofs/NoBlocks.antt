@@ -20,7 +20,8 @@ spare_all v (Syncs ∷ ss) none = spare_all v ss none
 
 pub blocks_stay : (ss : List Step) (log : UnitLog) → NoBlocks ss → (a : ℕ) → now (after_steps ss log) (BlockPlace a) ≡ now log (BlockPlace a)
 blocks_stay [] log none a = refl
-blocks_stay ((Puts put) ∷ ss) log none a = blocks_stay ss (wrote put log) none.1 a ∙ ap (λ (o : Option AnyUnit). or_else o (now log (BlockPlace a))) (none.0 a)
+blocks_stay ((Puts put) ∷ ss) log none a =
+    blocks_stay ss (wrote put log) none.1 a ∙ ap (λ (o : Option AnyUnit). or_else o (now log (BlockPlace a))) (none.0 a)
 blocks_stay (Syncs ∷ ss) log none a = blocks_stay ss (add Synced log) none a
 
 -- ---- which steps are such
@@ -45,7 +46,8 @@ pub update_no_blocks : (c : Content) (puts : PutsCopies c) → NoBlocks (update_
 update_no_blocks c puts = (copy_no_block puts.put0 0 c puts.one0, (copy_no_block puts.put1 1 c puts.one1, (copy_no_block puts.put2 2 c puts.one2, (copy_no_block puts.put3 3 c puts.one3, tt))))
 
 prepare_no_block : (put : Units) (slot : ℕ) (p : Message) → PutsOne put (PreparePlace slot) (PrepareUnit p) → PutsNoBlock put
-prepare_no_block put slot p one = put_no_block put (λ a y some. let at : BlockPlace a ≡ PreparePlace slot = (one.only (BlockPlace a) y some).0 in cc)
+prepare_no_block put slot p one =
+    put_no_block put (λ a y some. let at : BlockPlace a ≡ PreparePlace slot = (one.only (BlockPlace a) y some).0 in cc)
 
 prepares_no_blocks : (sh : Shape) (ps : List Message) (puts : List Units) → AllPutPrepare sh ps puts → NoBlocks (all_puts puts)
 prepares_no_blocks sh [] [] all = tt
@@ -68,9 +70,12 @@ copies_no_blocks : (c : Content) (m n : ℕ) (copies : List (ℕ × Units)) → 
 copies_no_blocks c m n [] all = tt
 copies_no_blocks c m n (k ∷ ks) all = (copy_no_block k.1 k.0 c all.0, copies_no_blocks c m n ks all.3)
 
-pub flush_no_blocks : (sh : Shape) (ps : List Message) (prepares : List Units) (table : ℕ → Header) (headers : List Units) → AllPutPrepare sh ps prepares → AllPutTable table headers → NoBlocks (flush_steps prepares headers)
-flush_no_blocks sh ps prepares table headers puts sectors =
-    no_blocks_both (all_puts prepares) (Syncs ∷ (all_puts headers ++ Syncs ∷ [])) (prepares_no_blocks sh ps prepares puts) (no_blocks_both (all_puts headers) (Syncs ∷ []) (puts_no_blocks table headers sectors) tt)
+pub flush_no_blocks : (sh : Shape) (ps : List Message) (prepares : List Units) (table : ℕ → Header) (headers : List Units)
+    → AllPutPrepare sh ps prepares → AllPutTable table headers → NoBlocks (flush_steps prepares headers)
+flush_no_blocks sh ps prepares table headers puts sectors = no_blocks_both (all_puts prepares) (Syncs ∷ (all_puts headers ++ Syncs ∷ []))
+    (prepares_no_blocks sh ps prepares puts) (no_blocks_both (all_puts headers) (Syncs ∷ []) (puts_no_blocks table headers sectors) tt)
 
-pub mend_no_blocks : (table : ℕ → Header) (headers : List Units) (c : Content) (m n : ℕ) (copies : List (ℕ × Units)) → AllPutTable table headers → AllPutCopy c m n copies → NoBlocks (mend_steps headers copies)
-mend_no_blocks table headers c m n copies puts_headers puts_copies = no_blocks_both (header_steps headers) (copy_steps copies) (headers_no_blocks table headers puts_headers) (copies_no_blocks c m n copies puts_copies)
+pub mend_no_blocks : (table : ℕ → Header) (headers : List Units) (c : Content) (m n : ℕ) (copies : List (ℕ × Units))
+    → AllPutTable table headers → AllPutCopy c m n copies → NoBlocks (mend_steps headers copies)
+mend_no_blocks table headers c m n copies puts_headers puts_copies = no_blocks_both
+    (header_steps headers) (copy_steps copies) (headers_no_blocks table headers puts_headers) (copies_no_blocks c m n copies puts_copies)

@@ -7,7 +7,8 @@ use Rattle.df_model.{specs.{Work.{Work, raised}, Memory.{memory_of}, Making.{boo
 either_good : (sh : Shape) (v u : View) (l : UnitLog) → IsGoodLog sh v v l → IsGoodLog sh v u l
 either_good sh v u l good = record { safe = good.safe; left = λ image left chance. elim (good.left image left chance) [ inl holds ↦ inl holds | inr holds ↦ inl holds ] }
 
-module _ (sh : Shape) (spell : Parts → List ℕ) (log : UnitLog) (w : Work) (table : ℕ → Header) (headers : List Units) (copies : List (ℕ × Units)) (sum : ℕ) (opens : MayOpenFor sh spell log w table headers copies) (unspent : boot_of w.view < 2 ^ 62)
+module _ (sh : Shape) (spell : Parts → List ℕ) (log : UnitLog) (w : Work) (table : ℕ → Header) (headers : List Units)
+    (copies : List (ℕ × Units)) (sum : ℕ) (opens : MayOpenFor sh spell log w table headers copies) (unspent : boot_of w.view < 2 ^ 62)
     (puts : PutsCopies (boot_content (memory_of sh spell w) sum)) where
   abbrev d : Content
   d = boot_content (memory_of sh spell w) sum
@@ -22,13 +23,15 @@ module _ (sh : Shape) (spell : Parts → List ℕ) (log : UnitLog) (w : Work) (t
   mid = after_steps first log
 
   none : NoBlocks first
-  none = mend_no_blocks table headers w.view.checkpoint.content opens.may.agreed.first opens.may.agreed.second copies opens.may.puts_headers opens.may.puts_copies
+  none = mend_no_blocks table
+      headers w.view.checkpoint.content opens.may.agreed.first opens.may.agreed.second copies opens.may.puts_headers opens.may.puts_copies
 
   mended : AtEach (IsGoodLog sh w.view w.view) log first × RestsOn sh mid w.view
   mended = mend_law sh log w.view table headers copies opens.may
 
   dry : IsDry mid
-  dry = subst IsDry (sym (after_append (header_steps headers) (copy_steps copies) log)) (dry_copies copies (after_steps (header_steps headers) log) (dry_headers headers log opens.dry))
+  dry = subst IsDry (sym (after_append (header_steps headers) (copy_steps copies) log))
+      (dry_copies copies (after_steps (header_steps headers) log) (dry_headers headers log opens.dry))
 
   behind : IsMendedFor sh spell mid w
   behind = record {
@@ -45,32 +48,27 @@ module _ (sh : Shape) (spell : Parts → List ℕ) (log : UnitLog) (w : Work) (t
   ends = after_append first (update_steps puts) log
 
   pub open_leads : LeadsOn sh spell log w u (raise_steps headers copies puts)
-  open_leads =
-      let on = update_leads sh spell mid w sum behind unspent puts in
-      record {
-        leads = record {
-          leads = record {
-            moments = each_append (IsGoodLog sh w.view u.view) first (update_steps puts) log good on.leads.leads.moments;
-            rests = rw (sym ends) at on.leads.leads.rests;
-          };
-          tidy = rw (sym ends) at on.leads.tidy;
-        };
-        keeps = rw (sym ends) at on.keeps;
-      }
+  open_leads = let on = update_leads sh spell mid w sum behind unspent puts in record {
+    leads = record {
+      leads = record {
+        moments = each_append (IsGoodLog sh w.view u.view) first (update_steps puts) log good on.leads.leads.moments;
+        rests = rw (sym ends) at on.leads.leads.rests;
+      };
+      tidy = rw (sym ends) at on.leads.tidy;
+    };
+    keeps = rw (sym ends) at on.keeps;
+  }
 
   pub open_backs : IsBacked log w → BacksOn sh log w u (raise_steps headers copies puts)
-  open_backs backed =
-      let stands = stands_law log w.view first backed.standing (spare_all w.view first none) in
-      let last = stands_last w.view first log stands in
-      let half : IsBacked mid w = record {
+  open_backs backed = let stands = stands_law log w.view first backed.standing (spare_all w.view first none) in
+      let last = stands_last w.view first log stands in let half : IsBacked mid w = record {
         standing = last;
         live = λ a c is. own_same (now log) (now mid) a c (blocks_stay first log none a) (backed.live a c is);
         captured = λ r at a c is. own_same (now log) (now mid) a c (blocks_stay first log none a) (backed.captured r at a c is);
-      } in
-      let on = update_backs sh spell mid w sum behind unspent puts half in
-      record {
+      } in let on = update_backs sh spell mid w sum behind unspent puts half in record {
         stands = record {
-          moments = each_append (IsGoodWhole sh w.view u.view) first (update_steps puts) log (stands_each sh w.view d first log good stands) on.stands.moments;
+          moments = each_append (IsGoodWhole sh w.view u.view)
+              first (update_steps puts) log (stands_each sh w.view d first log good stands) on.stands.moments;
           standing = rw (sym ends) at on.stands.standing;
         };
         backed = rw (sym ends) at on.backed;

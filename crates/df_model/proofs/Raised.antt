@@ -5,8 +5,10 @@ use Rattle.df_model.{specs.{Work.{Work, opened, raised}, Codec.{IsCodec}, Memory
 
 -- ---- what is begun after it
 
-module _ (sh : Shape) (spell : Parts → List ℕ) (image : Units) (v : View) (table : ℕ → Header) (headers : List Units) (copies : List (ℕ × Units)) (sum : ℕ) (puts : PutsCopies (boot_content (memory_of sh spell (opened sh image v)) sum))
-    (codec : IsCodec sh spell) (two : IsVersionTwo sh v) (may : MayRaise sh v.checkpoint.content.version image v table headers copies (boot_content (memory_of sh spell (opened sh image v)) sum)) (beyond : IsCleanBeyond image v) where
+module _ (sh : Shape) (spell : Parts → List ℕ) (image : Units) (v : View) (table : ℕ → Header) (headers : List Units)
+    (copies : List (ℕ × Units)) (sum : ℕ) (puts : PutsCopies (boot_content (memory_of sh spell (opened sh image v)) sum))
+    (codec : IsCodec sh spell) (two : IsVersionTwo sh v) (may : MayRaise sh v.checkpoint.content.version
+    image v table headers copies (boot_content (memory_of sh spell (opened sh image v)) sum)) (beyond : IsCleanBeyond image v) where
   abbrev d : Content
   d = boot_content (memory_of sh spell (opened sh image v)) sum
 
@@ -25,7 +27,8 @@ module _ (sh : Shape) (spell : Parts → List ℕ) (image : Units) (v : View) (t
   file : of_version v.checkpoint.content.version sh ≡ sh
   file = ap (λ (n : ℕ). of_version n sh) work.view.checkpoint.tests.version
 
-  ends : EndsRaised (of_version v.checkpoint.content.version sh) end (booted v d) × (IsCleanBeyond image v → BeginsRaised (of_version v.checkpoint.content.version sh) (now end) (booted v d))
+  ends : EndsRaised (of_version v.checkpoint.content.version sh) end (booted v d)
+      × (IsCleanBeyond image v → BeginsRaised (of_version v.checkpoint.content.version sh) (now end) (booted v d))
   ends = raise_ends_law sh v.checkpoint.content.version image v table headers copies d puts may
 
   ended : EndsRaised sh end (booted v d)
@@ -49,12 +52,11 @@ module _ (sh : Shape) (spell : Parts → List ℕ) (image : Units) (v : View) (t
   }
 
   pub begun_backed : Stands image v → IsBacked (restarted_at (now end)) u
-  begun_backed stands =
-      let first : IsStanding (restarted_at image) v = record { shown = stands; firm = λ a c is. refl } in
-      let none = no_blocks_both (mend_steps headers copies) (update_steps puts) (mend_no_blocks table headers v.checkpoint.content may.agreed.first may.agreed.second copies may.puts_headers may.puts_copies) (update_no_blocks d puts) in
-      let spare = spare_all v (raise_steps headers copies puts) none in
-      let last = stands_last v (raise_steps headers copies puts) (restarted_at image) (stands_law (restarted_at image) v (raise_steps headers copies puts) first spare) in
-      record {
+  begun_backed stands = let first : IsStanding (restarted_at image) v = record { shown = stands; firm = λ a c is. refl } in
+      let none = no_blocks_both (mend_steps headers copies) (update_steps puts) (mend_no_blocks table
+      headers v.checkpoint.content may.agreed.first may.agreed.second copies may.puts_headers may.puts_copies) (update_no_blocks d puts) in
+      let spare = spare_all v (raise_steps headers copies puts) none in let last = stands_last v (raise_steps headers copies puts)
+      (restarted_at image) (stands_law (restarted_at image) v (raise_steps headers copies puts) first spare) in record {
         standing = record { shown = last.shown; firm = λ a c is. refl };
         live = last.shown;
         captured = λ r none. absurd (cc);

@@ -43,12 +43,14 @@ last_split (suc n) c (x ∷ ps) = last_split n x.header.checksum ps
 pub record IsRecordable (v : View) : Type 0 where
   pub pin : v.checkpoint.content.pin ≤ head v
   pub answered : v.checkpoint.content.answered ≤ v.replies + 1
-  pub stored : (k : ℕ) (r : Message) → v.stored k ≡ Some r → (s : Session) × (slice_get (sessions v) k ≡ Some s) × (s.op ≤ v.replies) × Answers s r
+  pub stored : (k : ℕ) (r : Message)
+      → v.stored k ≡ Some r → (s : Session) × (slice_get (sessions v) k ≡ Some s) × (s.op ≤ v.replies) × Answers s r
   pub few : length (sessions v) ≤ v.checkpoint.content.layout.clients
   pub places : v.checkpoint.content.layout.clients ≤ named_places
 
 -- so is each view that makes sense, whatever its version
-pub recordable : (sh : Shape) (n : ℕ) (v : View) → Sound sh v → length (sessions v) ≤ clients sh → clients sh ≤ named_places → IsRecordable (as_version n v)
+pub recordable : (sh : Shape) (n : ℕ) (v : View)
+    → Sound sh v → length (sessions v) ≤ clients sh → clients sh ≤ named_places → IsRecordable (as_version n v)
 recordable sh n v sound few places =
     let same : v.checkpoint.content.layout.clients ≡ sh.layout.clients = ap (λ (l : Layout). l.clients) sound.checkpoint.tests.layout in
     record {
@@ -67,10 +69,9 @@ module _ (sh : Shape) (spell : Parts → List ℕ) (w : Work) (is : IsRecordable
   m = memory_of sh spell w
 
   names_stored : (k : ℕ) (r : Message) → v.stored k ≡ Some r → slice_index (named_sums m) k ≡ r.header.checksum
-  names_stored k r at =
-      let s = is.stored k r at in
-      let inside : k < length (sessions v) = slice_get_within (sessions v) k s.0 s.1 in
-      named_some m k r.header.checksum (omega (arith, inside, is.few, is.places)) (get_range (λ i. stored_sum (v.stored i)) 0 (length (sessions v)) k k inside (omega arith) ∙ ap (λ (o : Option Message). Some (stored_sum o)) at)
+  names_stored k r at = let s = is.stored k r at in let inside : k < length (sessions v) = slice_get_within (sessions v) k s.0 s.1 in
+      named_some m k r.header.checksum (omega (arith, inside, is.few, is.places)) (get_range (λ i.
+      stored_sum (v.stored i)) 0 (length (sessions v)) k k inside (omega arith) ∙ ap (λ (o : Option Message). Some (stored_sum o)) at)
 
   names_no_more : (k : ℕ) → v.checkpoint.content.layout.clients ≤ k → slice_index (named_sums m) k ≡ 0
   names_no_more k from =
@@ -79,21 +80,22 @@ module _ (sh : Shape) (spell : Parts → List ℕ) (w : Work) (is : IsRecordable
 
   names_none : (k : ℕ) → v.stored k ≡ None → slice_index (named_sums m) k ≡ 0
   names_none k none = elim (cases_lt k (length (sessions v))) [
-    | inl inside ↦
-        let at : slice_get m.stored k ≡ Some None = get_range (λ i. stored_sum (v.stored i)) 0 (length (sessions v)) k k inside (omega arith) ∙ ap (λ (o : Option Message). Some (stored_sum o)) none in
+    | inl inside ↦ let at : slice_get m.stored k ≡ Some None = get_range (λ i.
+        stored_sum (v.stored i)) 0 (length (sessions v)) k k inside (omega arith) ∙ ap (λ (o : Option Message). Some (stored_sum o)) none in
         named_at m k (omega (arith, inside, is.few, is.places)) ∙ ap (λ (o : Option (Option ℕ)). sum_or_zero (joined o)) at
-    | inr past ↦ named_none m k (slice_get_past m.stored k (omega (arith, past, length-map-range_with_len (λ i. stored_sum (v.stored i)) 0 (length (sessions v)))))
+    | inr past ↦ named_none m k
+        (slice_get_past m.stored k (omega (arith, past, length-map-range_with_len (λ i. stored_sum (v.stored i)) 0 (length (sessions v)))))
   ]
 
   -- what it records is so, whatever op of the tail it reaches
-  pub records_now : (c : Content) → v.checkpoint.content.op ≤ c.op → c.op ≤ head v → c.op_checksum ≡ last_checksum v.checkpoint.content.op_checksum (take (c.op - v.checkpoint.content.op) v.tail) → Records v (recorded m c)
-  records_now c from to sum =
-      let n = c.op - v.checkpoint.content.op in
-      let all : take (head v - c.op) (drop n v.tail) ≡ drop n v.tail = take_all (head v - c.op) (drop n v.tail) (omega (arith, length-drop n v.tail, from, to)) in
-      record {
+  pub records_now : (c : Content) → v.checkpoint.content.op ≤ c.op → c.op ≤ head v → c.op_checksum
+      ≡ last_checksum v.checkpoint.content.op_checksum (take (c.op - v.checkpoint.content.op) v.tail) → Records v (recorded m c)
+  records_now c from to sum = let n = c.op - v.checkpoint.content.op in let all : take (head v - c.op) (drop n v.tail) ≡ drop n v.tail =
+      take_all (head v - c.op) (drop n v.tail) (omega (arith, length-drop n v.tail, from, to)) in record {
         pin_from = (is.pin, to);
         pin_to = omega arith;
-        checksum = ap (λ (ps : List Message). last_checksum c.op_checksum ps) all ∙ ap (λ (k : ℕ). last_checksum k (drop n v.tail)) sum ∙ last_split n v.checkpoint.content.op_checksum v.tail;
+        checksum = ap (λ (ps : List Message). last_checksum c.op_checksum ps) all
+            ∙ ap (λ (k : ℕ). last_checksum k (drop n v.tail)) sum ∙ last_split n v.checkpoint.content.op_checksum v.tail;
         answered = (is.answered, omega arith);
         stored = λ k r at below. names_stored k r at;
         unstored = names_none;

@@ -8,8 +8,8 @@ use Rattle.df_model.{specs.{Work.{Request, Tour, Work}, Codec.{AreLawful}, Memor
 
 -- no staged request, no tour and no finding knows a block
 pub aside_keeps : (sh : Shape) (spell : Parts → List ℕ) (w : Work) (staged : List Request) (tour : Tour) (findings : List Finding)
-    → AreStaged sh w.view (group_of (memory_of sh spell (record w { staged = staged; tour = tour; findings = findings })) []) → length findings ≤ 64
-    → IsWork sh spell w → IsWork sh spell (record w { staged = staged; tour = tour; findings = findings })
+    → AreStaged sh w.view (group_of (memory_of sh spell (record w { staged = staged; tour = tour; findings = findings })) [])
+    → length findings ≤ 64 → IsWork sh spell w → IsWork sh spell (record w { staged = staged; tour = tour; findings = findings })
 aside_keeps sh spell w staged tour findings fits few work = record {
   codec = work.codec;
   version = work.version;
@@ -28,7 +28,8 @@ aside_keeps sh spell w staged tour findings fits few work = record {
 
 -- ---- a request is staged
 
-module _ (sh : Shape) (spell : Parts → List ℕ) (w : Work) (client request : ℕ) (body : List ℕ) (work : IsWork sh spell w) (none : first_refusal (stage_refusals (memory_of sh spell w) client request body) ≡ None) where
+module _ (sh : Shape) (spell : Parts → List ℕ) (w : Work) (client request : ℕ) (body : List ℕ)
+    (work : IsWork sh spell w) (none : first_refusal (stage_refusals (memory_of sh spell w) client request body) ≡ None) where
   abbrev v : View
   v = w.view
 
@@ -61,35 +62,39 @@ module _ (sh : Shape) (spell : Parts → List ℕ) (w : Work) (client request : 
   longer = length-append w.staged (r ∷ [])
 
   before : AreStaged sh v ps
-  before = staged_on sh v v m n (head v + 1) (head v + length w.staged) (head v + 1) (head v + many) (head v + 1) (head v + 1) m.head_checksum n.head_checksum w.staged [] [] refl (omega arith) (omega arith) refl (omega arith) refl work.staged
+  before = staged_on sh v v m n (head v + 1) (head v + length w.staged) (head v + 1) (head v + many) (head v
+      + 1) (head v + 1) m.head_checksum n.head_checksum w.staged [] [] refl (omega arith) (omega arith) refl (omega arith) refl work.staged
 
   same : counts ≡ sessions_after (sessions v) ps
-  same = alike_sessions m n (head v + 1) (head v + length w.staged) (head v + 1) (head v + many) (head v + 1) (head v + 1) m.head_checksum n.head_checksum w.staged [] [] (sessions v) refl
+  same = alike_sessions m n (head v + 1) (head v + length w.staged)
+      (head v + 1) (head v + many) (head v + 1) (head v + 1) m.head_checksum n.head_checksum w.staged [] [] (sessions v) refl
 
   abbrev q : ℕ → Message
   q op = prepare_in n (head v + 1) (head v + many) op 0 0 r
 
   asks : MayAsk sh.layout.clients (q (head v + 1 + length w.staged)).header (sessions_after (sessions v) ps)
-  asks = subst (MayAsk sh.layout.clients (q (head v + 1 + length w.staged)).header) same (allowed_asks (counted_staged m) (q (head v + 1 + length w.staged)).header body work.staged.sessions.few (omega arith) is)
+  asks = subst (MayAsk sh.layout.clients (q (head v + 1 + length w.staged)).header)
+      same (allowed_asks (counted_staged m) (q (head v + 1 + length w.staged)).header body work.staged.sessions.few (omega arith) is)
 
   lawful : client < 2 ^ 128 → AreLawful sh.layout.clients (noted (q (head v + 1 + length w.staged)).header (sessions_after (sessions v) ps))
-  lawful fits = noted_lawful sh.layout.clients (q (head v + 1 + length w.staged)).header (sessions_after (sessions v) ps) before.sessions asks (record {
-    client = ((let named = is.named in omega arith), fits);
-    request = (omega (arith, is.next, some_request (session_of_client client counts)), is.request_to);
-    op = (omega arith, omega (arith, is.op, before.unspent, length_in n (head v + 1) (head v + many) (head v + 1) n.head_checksum w.staged []));
-  })
+  lawful fits = noted_lawful
+      sh.layout.clients (q (head v + 1 + length w.staged)).header (sessions_after (sessions v) ps) before.sessions asks (record {
+        client = ((let named = is.named in omega arith), fits);
+        request = (omega (arith, is.next, some_request (session_of_client client counts)), is.request_to);
+        op = (omega arith, omega (arith, is.op, before.unspent, length_in n (head v + 1) (head v + many) (head v + 1) n.head_checksum w.staged []));
+      })
 
   staged : client < 2 ^ 128 → AreStaged sh v (group_of n [])
-  staged fits =
-      let long = length_in n (head v + 1) (head v + many) (head v + 1) n.head_checksum w.staged [] in
-      let all = length_in n (head v + 1) (head v + many) (head v + 1) n.head_checksum (w.staged ++ r ∷ []) [] in
-      record {
+  staged fits = let long = length_in n (head v + 1) (head v + many) (head v + 1) n.head_checksum w.staged [] in
+      let all = length_in n (head v + 1) (head v + many) (head v + 1) n.head_checksum (w.staged ++ r ∷ []) [] in record {
         room = omega (arith, is.room, all, longer);
         pipeline = omega (arith, is.pipeline, before.pipeline, long, all, longer);
         unspent = omega (arith, is.op, before.unspent, long, all, longer);
         asks = asks_more n (head v + 1) (head v + many) sh.layout.clients (head v + 1) n.head_checksum w.staged r [] (sessions v) before.asks
-            (ask_on sh.layout.clients (q (head v + 1 + length w.staged)).header (q 0).header (sessions_after (sessions v) ps) refl refl (omega arith) asks);
-        sessions = subst (AreLawful sh.layout.clients) (sym (sessions_more n (head v + 1) (head v + many) (head v + 1) n.head_checksum (head v + 1 + length w.staged) w.staged r [] (sessions v) refl)) (lawful fits);
+            (ask_on sh.layout.clients
+            (q (head v + 1 + length w.staged)).header (q 0).header (sessions_after (sessions v) ps) refl refl (omega arith) asks);
+        sessions = subst (AreLawful sh.layout.clients) (sym (sessions_more n (head v + 1)
+            (head v + many) (head v + 1) n.head_checksum (head v + 1 + length w.staged) w.staged r [] (sessions v) refl)) (lawful fits);
       }
 
   pub stage_keeps : client < 2 ^ 128 → IsWork sh spell u

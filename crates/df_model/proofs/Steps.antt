@@ -6,13 +6,12 @@ use Rattle.df_model.{specs.{Work.{Running, Work}, Codec.{AreBytes, IsLawful}, Re
 
 -- ---- pieces
 
-count_of : (room size n : ℕ) → 0 < size → n ≡ (size + room - 1) / room → size + room - 1 < room * n + room → room * n ≤ size + room - 1 → IsCount room size n
+count_of : (room size n : ℕ)
+    → 0 < size → n ≡ (size + room - 1) / room → size + room - 1 < room * n + room → room * n ≤ size + room - 1 → IsCount room size n
 count_of room size zero some is low high = record { holds = omega (arith, mul-suc room 0); needed = λ none. absurd (omega arith) }
 count_of room size (suc n) some is low high = record {
   holds = omega arith;
-  needed = λ any.
-      let same : suc n - 1 ≡ n = omega arith in
-      rw same (omega (arith, mul-suc room n));
+  needed = λ any. let same : suc n - 1 ≡ n = omega arith in rw same (omega (arith, mul-suc room n));
 }
 
 pub pieces_count : (room size : ℕ) → 0 < room → 0 < size → IsCount room size (pieces_of room size)
@@ -23,7 +22,8 @@ pieces_count room size some any =
 
 -- ---- the begin
 
-module _ (sh : Shape) (spell : Parts → List ℕ) (w : Work) (root : List ℕ) (bytes : AreBytes root) (work : IsWork sh spell w) (none : first_refusal (begin_refusals (memory_of sh spell w) (needed_of spell (memory_of sh spell w) root) root) ≡ None) where
+module _ (sh : Shape) (spell : Parts → List ℕ) (w : Work) (root : List ℕ) (bytes : AreBytes root) (work : IsWork sh spell w)
+    (none : first_refusal (begin_refusals (memory_of sh spell w) (needed_of spell (memory_of sh spell w) root) root) ≡ None) where
   abbrev v : View
   v = w.view
 
@@ -49,13 +49,13 @@ module _ (sh : Shape) (spell : Parts → List ℕ) (w : Work) (root : List ℕ) 
   spares = each_take (IsSpare sh r) (needed_of spell (memory_of sh spell w) root) (free_of (memory_of sh spell w)) (each_weaker (IsFree sh w) (IsSpare sh r) (λ a free. record { inside = free.inside; unreferenced = entry_none w.live (addresses sh.layout) a (nowhere w a free.unheld).live }) (free_of (memory_of sh spell w)) (are_free sh spell w))
 
   pub begin_capture : IsCapture sh spell v r
-  begin_capture =
-      let tests = all_pass (begin_refusals (memory_of sh spell w) (needed_of spell (memory_of sh spell w) root) root) none in
-      let enough : needed_of spell (memory_of sh spell w) root ≤ length (free_of (memory_of sh spell w)) = ltb-false (length (free_of (memory_of sh spell w))) (needed_of spell (memory_of sh spell w) root) tests.1.1.0 in
+  begin_capture = let tests = all_pass (begin_refusals (memory_of sh spell w) (needed_of spell (memory_of sh spell w) root) root) none in
+      let enough : needed_of spell (memory_of sh spell w) root ≤ length (free_of (memory_of sh spell w)) =
+      ltb-false (length (free_of (memory_of sh spell w))) (needed_of spell (memory_of sh spell w) root) tests.1.1.0 in
       let spent : sequence v ≡ 2 ^ 62 → ⊥ = eqb-false (sequence v) (2 ^ 62) tests.1.1.1.0 in
-      let long : length r.left ≡ needed_of spell (memory_of sh spell w) root = length-take-le (needed_of spell (memory_of sh spell w) root) (free_of (memory_of sh spell w)) enough in
-      let none_yet : block_room sh.layout * 0 ≡ 0 = omega arith in
-      record {
+      let long : length r.left ≡ needed_of spell (memory_of sh spell w) root =
+      length-take-le (needed_of spell (memory_of sh spell w) root) (free_of (memory_of sh spell w)) enough in
+      let none_yet : block_room sh.layout * 0 ≡ 0 = omega arith in record {
         op_from = omega arith;
         op_to = omega arith;
         ends = λ p at low. work.view.groups p at;
@@ -72,7 +72,8 @@ module _ (sh : Shape) (spell : Parts → List ℕ) (w : Work) (root : List ℕ) 
 
 -- ---- a step
 
-module _ (sh : Shape) (spell : Parts → List ℕ) (w : Work) (r : Running) (sum a : ℕ) (more : List ℕ) (old : IsCapture sh spell w.view r) (left : r.left ≡ a ∷ more) where
+module _ (sh : Shape) (spell : Parts → List ℕ)
+    (w : Work) (r : Running) (sum a : ℕ) (more : List ℕ) (old : IsCapture sh spell w.view r) (left : r.left ≡ a ∷ more) where
   abbrev b : Block
   b = next_trailer sh spell w r sum
 
@@ -89,15 +90,16 @@ module _ (sh : Shape) (spell : Parts → List ℕ) (w : Work) (r : Running) (sum
   keep_spare x spare = record { inside = spare.inside; unreferenced = spare.unreferenced }
 
   size : length b.body ≡ piece_size (block_room sh.layout) (length (spell r.parts)) (length r.written)
-  size = length-take (block_room sh.layout) (drop (block_room sh.layout * length r.written) (spell r.parts)) ∙ ap (min (block_room sh.layout)) (length-drop (block_room sh.layout * length r.written) (spell r.parts))
+  size = length-take (block_room sh.layout) (drop (block_room sh.layout * length r.written) (spell r.parts))
+      ∙ ap (min (block_room sh.layout)) (length-drop (block_room sh.layout * length r.written) (spell r.parts))
 
   text : text_of r.written ++ b.body ≡ take (block_room sh.layout * suc (length r.written)) (spell r.parts)
-  text = ap (λ (l : List ℕ). l ++ b.body) old.text ∙ sym (take-add (block_room sh.layout * length r.written) (block_room sh.layout) (spell r.parts)) ∙ ap (λ (k : ℕ). take k (spell r.parts)) (sym (mul-suc (block_room sh.layout) (length r.written)))
+  text = ap (λ (l : List ℕ). l ++ b.body) old.text ∙ sym (take-add (block_room sh.layout * length r.written) (block_room sh.layout)
+      (spell r.parts)) ∙ ap (λ (k : ℕ). take k (spell r.parts)) (sym (mul-suc (block_room sh.layout) (length r.written)))
 
   written : (x : ℕ) (y : Block) → InChain x y u.written → IsSpare sh u x × RiseFrom (x + 1) more
   written x y (inl here) = (subst (IsSpare sh u) (sym here.0) (keep_spare a left_spare.0), rw (sym here.0) at rises.1)
-  written x y (inr there) =
-      let before = old.written x y there in
+  written x y (inr there) = let before = old.written x y there in
       let rise : RiseFrom (x + 1) (a ∷ more) = subst (RiseFrom (x + 1)) left before.1 in
       (keep_spare x before.0, rise_lower (x + 1) (a + 1) more (omega (arith, rise.0)) rise.1)
 
@@ -106,7 +108,8 @@ module _ (sh : Shape) (spell : Parts → List ℕ) (w : Work) (r : Running) (sum
     op_from = old.op_from;
     op_to = old.op_to;
     ends = old.ends;
-    count = subst (IsCount (block_room sh.layout) (length (spell r.parts))) (let e : length r.written + length r.left ≡ suc (length r.written) + length more = omega (arith, ap length left) in e) old.count;
+    count = subst (IsCount (block_room sh.layout) (length (spell r.parts)))
+        (let e : length r.written + length r.left ≡ suc (length r.written) + length more = omega (arith, ap length left) in e) old.count;
     op_checksum = old.op_checksum;
     sessions = old.sessions;
     unspent = old.unspent;

@@ -1,8 +1,6 @@
 -- What an ending blames: a call of the replica blames the disk, and never the sink.
 use Rattle.std.{proofs.{Common.{◌≡◌, ◌∙◌, ℕ, Bool, true, false, refl, ap, Result, Ok, Err}, lemmas.Result.{err_from_is_err_and}}, specs.{Prelude.{OnOk, Option}, Result.{IsErr, IsErrAnd}}}
-use Rattle.df_base.specs.Causes.{Blamed}
-use Rattle.df_disk.specs.Told.{Told}
-use Rattle.df_model.specs.Commands.{Command}
+use Rattle.{df_base.specs.Causes.{Blamed}, df_disk.specs.Told.{Told}, df_model.specs.Commands.{Command}}
 use Rattle.df_session.specs.{Below.{State as Replica}, Endings.{is_disk_fault}, declared.hearing.Fault.{Fault}}
 use Rattle.df_session.specs.declared.hearing.Fault.TheVariants as faults
 use Rattle.df_notes.specs.{Calling.{EndsIn, Fails, IsRefusal}, Ending.{IsOfRun, ended_at, ended_by, is_disk_at_fault, is_sink}, declared.ended.Ended.{Ended}}
@@ -13,9 +11,7 @@ on_ok (Err e) p = tt
 
 -- an error that is handed on
 pub handed_on : (r : Result (Unit {0}) Ended) (ended : Ended) → IsErr r × IsErrAnd r (λ e. e ≡ ended) → r ≡ Err ended
-handed_on r ended is =
-    let p = err_from_is_err_and r is.1 in
-    p.1 ∙ ap (λ (e : Ended). Err e) p.2
+handed_on r ended is = let p = err_from_is_err_and r is.1 in p.1 ∙ ap (λ (e : Ended). Err e) p.2
 
 -- ---- by an error of the replica
 
@@ -33,7 +29,8 @@ of_run false = tt
 
 -- ---- by what is heard of a call
 
-pub blamed_at : (fault : Fault) (before now : ℕ) → Blamed (is_disk_fault fault) before now → Blamed (is_disk_at_fault (ended_at fault)) before now
+pub blamed_at : (fault : Fault) (before now : ℕ)
+    → Blamed (is_disk_fault fault) before now → Blamed (is_disk_at_fault (ended_at fault)) before now
 blamed_at faults.Disk before now blamed = blamed
 blamed_at (faults.Damaged place class) before now blamed = blamed
 

@@ -10,7 +10,8 @@ none_from n k past inside = get_or-drop n no_checksums k past ∙ no_names (n + 
 pub first_is_super : (layout : Layout) (cluster : ℕ) → 0 < cluster → IsSuper (first_super layout cluster)
 unfolding first_super
 first_is_super layout cluster some = record {
-  version = inr (record { version = refl; boot = omega arith; no_head = λ none. refl; head_is_op = λ same. refl; spare = none_from layout.clients });
+  version = inr
+      (record { version = refl; boot = omega arith; no_head = λ none. refl; head_is_op = λ same. refl; spare = none_from layout.clients });
   layout = record { slots_within = layout.slots_within; message_size_within = layout.message_size_within; clients_within = layout.clients_within; block_size_within = layout.block_size_within; blocks_within = layout.blocks_within };
   cluster = some;
   sequence = (omega arith, omega arith);

@@ -1,6 +1,5 @@
 -- Views that keep one another: each keeps itself, and they do so back and on.
-use Rattle.std.proofs.Common.{◌∙◌, refl, sym}
-use Rattle.df_theory.specs.{Next.{SameCheckpoint}, Units.{Content}, View.{View}}
+use Rattle.{std.proofs.Common.{◌∙◌, refl, sym}, df_theory.specs.{Next.{SameCheckpoint}, Units.{Content}, View.{View}}}
 use Rattle.df_model.specs.Views.{KeepsView}
 
 same_self : (c : Content) → SameCheckpoint c c

@@ -1,6 +1,5 @@
 -- Worked scripts compute.
-use Rattle.std.{proofs.Common.{refl}, specs.Fmt.{digits}}
-use Rattle.hex.specs.Hex.{encode_with}
+use Rattle.{std.{proofs.Common.{refl}, specs.Fmt.{digits}}, hex.specs.Hex.{encode_with}}
 use Rattle.df_pace.specs.Worked.{FullRing, GroupsCount, LongSession, OwnCheckpoint, RefusedBegin}
 
 pub long_session : LongSession

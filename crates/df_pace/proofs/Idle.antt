@@ -1,7 +1,6 @@
 -- Beside a script where nothing is due nothing is done.
 use Rattle.std.proofs.Common.{◌≡◌, ℕ, ◌&&◌, Bool, true, false, not, List, [], ◌∷◌, replicate, ◌++◌, refl, ap, ◌∙◌}
-use Rattle.df_theory.specs.Shape.{Shape}
-use Rattle.df_model.specs.{Commands.{Advance, Command}, Refusals.{is_running, steps_left}, Supply.{Codec}}
+use Rattle.{df_theory.specs.Shape.{Shape}, df_model.specs.{Commands.{Advance, Command}, Refusals.{is_running, steps_left}, Supply.{Codec}}}
 use Rattle.df_script_model.specs.Script.{answer_text, printed}
 use Rattle.df_pace.{specs.{declared.pace.Pace.{Pace}, Loop.{Stand, all_by_loop, answer_at, begin_due, begin_if, by_script, course_at, paced, passed, stand_after, steps_due}, Laws.{AnsweredLaw, IdleLaw}}, proofs.Beats.{none_min}}
 
@@ -31,4 +30,5 @@ idle_law sh codec shown w lines = idle_at sh codec (record { shown = shown; work
 
 pub answered_law : AnsweredLaw
 answered_law sh codec pace x [] = refl
-answered_law sh codec pace x (c ∷ cs) = ap (λ (more : List (List ℕ)). answer_text c (answer_at sh codec x c) ∷ more) (answered_law sh codec pace (passed sh codec pace x c) cs)
+answered_law sh codec pace x (c ∷ cs) =
+    ap (λ (more : List (List ℕ)). answer_text c (answer_at sh codec x c) ∷ more) (answered_law sh codec pace (passed sh codec pace x c) cs)

@@ -1,9 +1,8 @@
 -- What is read at the places of the replies, and the table of sessions, after a prepare or a reply more.
 use Rattle.std.{proofs.Common.{◌≡◌, ℕ, zero, suc, ◌+◌, ◌<◌, ◌==◌, nat_lt, Bool, true, false, if◌then◌else◌, List, [], ◌∷◌, ◌++◌, drop, map, length, Option, Some, None, Result, Ok, Err, refl, ◌∙◌, ap, arith, eq-eqb}, specs.List.{range_with_len, slice_get}}
-use Rattle.df_layout.specs.{declared.damage.Class.{Class}, declared.damage.Class.TheVariants.{Stale}}
+use Rattle.{df_layout.specs.declared.damage.Class.{Class, TheVariants.{Stale}}, df_pace.proofs.Told.{plain, plainly}}
 use Rattle.df_theory.{specs.{Units.{AnyUnit, BlockUnit, CopyUnit, Header, HeaderUnit, Message, PrepareUnit, ReplyPlace, ReplyUnit, Session, or_else}, Sessions.{noted, session_of_header, sessions_after}, Next.{kept}}, proofs.Laws.{sessions-append}}
 use Rattle.df_model.specs.{Work.{Request}, Memory.{Memory, stored_sum}, Making.{first_of, group_of, prepare_in, prepares_in}, Supply.{class_or, given_if, group_puts, is_sum, reply_given}}
-use Rattle.df_pace.proofs.Told.{plain, plainly}
 
 -- ---- the table of sessions, by sessions
 
@@ -15,7 +14,8 @@ noted_is : (h : Header) (ss : List Session) → noted h ss ≡ put_session (sess
 noted_is h [] = refl
 noted_is h (s ∷ ss) = ap (λ (rest : List Session). if s.client == h.client then session_of_header h ∷ ss else s ∷ rest) (noted_is h ss)
 
-pub sessions_more : (ss : List Session) (ps : List Message) (p : Message) → sessions_after ss (ps ++ p ∷ []) ≡ put_session (session_of_header p.header) (sessions_after ss ps)
+pub sessions_more : (ss : List Session) (ps : List Message) (p : Message)
+    → sessions_after ss (ps ++ p ∷ []) ≡ put_session (session_of_header p.header) (sessions_after ss ps)
 sessions_more ss ps p = sessions-append ss ps (p ∷ []) ∙ noted_is p.header (sessions_after ss ps)
 
 -- after requests, made prepares of the ops from this one on
@@ -23,14 +23,16 @@ abbrev pub asked_all : (op : ℕ) → List Request → List Session → List Ses
 asked_all op [] ss = ss
 asked_all op (r ∷ rs) ss = asked_all (op + 1) rs (put_session (record { client = r.client; request = r.request; op = op }) ss)
 
-pub sessions_all : (m : Memory) (first last op parent : ℕ) (rs : List Request) (sums : List ℕ) (ss : List Session) → sessions_after ss (prepares_in m first last op parent rs sums) ≡ asked_all op rs ss
+pub sessions_all : (m : Memory) (first last op parent : ℕ) (rs : List Request) (sums : List ℕ) (ss : List Session)
+    → sessions_after ss (prepares_in m first last op parent rs sums) ≡ asked_all op rs ss
 sessions_all m first last op parent [] sums ss = refl
-sessions_all m first last op parent (r ∷ rs) sums ss =
-    let h = (prepare_in m first last op parent (first_of sums) r).header in
+sessions_all m first last op parent (r ∷ rs) sums ss = let h = (prepare_in m first last op parent (first_of sums) r).header in
     sessions_all m first last (op + 1) (first_of sums) rs (drop 1 sums) (noted h ss) ∙ ap (asked_all (op + 1) rs) (noted_is h ss)
 
-pub sessions_group : (m : Memory) (sums : List ℕ) (ss : List Session) (ps : List Message) → sessions_after ss (ps ++ group_of m sums) ≡ asked_all (m.head + 1) m.staged (sessions_after ss ps)
-sessions_group m sums ss ps = sessions-append ss ps (group_of m sums) ∙ sessions_all m (m.head + 1) (m.head + length m.staged) (m.head + 1) m.head_checksum m.staged sums (sessions_after ss ps)
+pub sessions_group : (m : Memory) (sums : List ℕ) (ss : List Session) (ps : List Message)
+    → sessions_after ss (ps ++ group_of m sums) ≡ asked_all (m.head + 1) m.staged (sessions_after ss ps)
+sessions_group m sums ss ps = sessions-append ss ps (group_of m sums)
+    ∙ sessions_all m (m.head + 1) (m.head + length m.staged) (m.head + 1) m.head_checksum m.staged sums (sessions_after ss ps)
 
 -- ---- reads of replies
 
@@ -52,7 +54,8 @@ given_gone : (b : Bool) (r : Message) → Err Stale ≡ gone (plainly (given_if 
 given_gone true r = refl
 given_gone false r = refl
 
-read_gone : (known : Option ℕ) (u : Option AnyUnit) (d : Class) → plainly (reply_given None u (class_or u d)) ≡ gone (plainly (reply_given known u (class_or u d)))
+read_gone : (known : Option ℕ) (u : Option AnyUnit) (d : Class)
+    → plainly (reply_given None u (class_or u d)) ≡ gone (plainly (reply_given known u (class_or u d)))
 read_gone known None d = refl
 read_gone known (Some (CopyUnit x)) d = refl
 read_gone known (Some (HeaderUnit x)) d = refl
@@ -60,17 +63,22 @@ read_gone known (Some (PrepareUnit x)) d = refl
 read_gone known (Some (ReplyUnit r)) d = given_gone (is_sum known r.header.checksum) r
 read_gone known (Some (BlockUnit x)) d = refl
 
-read_kept_case : (b : Bool) (stored : Option Message) (u : Option AnyUnit) (d : Class) → plainly (reply_given (stored_sum (if b then None else stored)) u (class_or u d)) ≡ (if b then gone (plainly (reply_given (stored_sum stored) u (class_or u d))) else plainly (reply_given (stored_sum stored) u (class_or u d)))
+read_kept_case : (b : Bool) (stored : Option Message) (u : Option AnyUnit) (d : Class)
+    → plainly (reply_given (stored_sum (if b then None else stored)) u (class_or u d)) ≡ (if b
+    then gone (plainly (reply_given (stored_sum stored) u (class_or u d))) else plainly (reply_given (stored_sum stored) u (class_or u d)))
 read_kept_case true stored u d = read_gone (stored_sum stored) u d
 read_kept_case false stored u d = refl
 
-pub read_kept : (o : Option Session) (op : ℕ) (stored : Option Message) (u : Option AnyUnit) (d : Class) → plainly (reply_given (stored_sum (kept o op stored)) u (class_or u d)) ≡ kept_read o op (plainly (reply_given (stored_sum stored) u (class_or u d)))
+pub read_kept : (o : Option Session) (op : ℕ) (stored : Option Message) (u : Option AnyUnit) (d : Class) → plainly (reply_given
+    (stored_sum (kept o op stored)) u (class_or u d)) ≡ kept_read o op (plainly (reply_given (stored_sum stored) u (class_or u d)))
 read_kept None op stored u d = read_gone (stored_sum stored) u d
 read_kept (Some s) op stored u d = read_kept_case (nat_lt op s.op) stored u d
 
 -- a reply that was just written
-pub read_new : (b c : Bool) → c ≡ b → (r : Message) (stored : Option Message) (u : Option AnyUnit) (d : Class) → let there = or_else (if c then Some (ReplyUnit r) else None) u in
-    plainly (reply_given (stored_sum (if b then Some r else stored)) there (class_or there d)) ≡ (if b then Ok (plain r) else plainly (reply_given (stored_sum stored) u (class_or u d)))
+pub read_new : (b c : Bool) → c ≡ b → (r : Message) (stored : Option Message) (u : Option AnyUnit) (d : Class) → let there =
+    or_else (if c then Some (ReplyUnit r) else None) u in
+    plainly (reply_given (stored_sum (if b then Some r else stored)) there (class_or there d))
+    ≡ (if b then Ok (plain r) else plainly (reply_given (stored_sum stored) u (class_or u d)))
 read_new true true same r stored u d = ap (λ (e : Bool). plainly (given_if e r Stale)) (eq-eqb r.header.checksum r.header.checksum refl)
 read_new true false same r stored u d = absurd (cc)
 read_new false true same r stored u d = absurd (cc)

@@ -7,7 +7,8 @@ use Rattle.df_pace.{specs.{declared.pace.Pace.{Pace}, Loop.{Stand, all_by_loop, 
 
 -- ---- what is told
 
--- a reply without what depends on the checkpoints: its checksum, its prepare's, and the numbers of the checkpoint and the boot that it was made after
+-- a reply without what depends on the checkpoints: its checksum, its prepare's, and the numbers of the checkpoint and the boot that it was
+-- made after
 abbrev pub plain : Message → Message
 plain r = record r { header = record r.header { checksum = 0; parent = 0; checkpoint = 0; boot = 0 } }
 
@@ -54,7 +55,9 @@ pub record Stays (x y : Stand) : Type 0 where
   pub told : told_at y ≡ told_at x
   pub goes : Goes y.work
 
-outcome_stays : {E A : Type 0} (o : Option E) (shown : Shown) (n k : ℕ) (w u : Work) (answer : A) → Goes w → Stays (record { shown = shown; work = w; appended = n }) (record { shown = shown; work = u; appended = n }) → Stays (record { shown = shown; work = w; appended = n }) (record { shown = shown; work = (outcome o w u answer).0; appended = k })
+outcome_stays : {E A : Type 0} (o : Option E) (shown : Shown) (n k : ℕ) (w u : Work) (answer : A)
+    → Goes w → Stays (record { shown = shown; work = w; appended = n }) (record { shown = shown; work = u; appended = n })
+    → Stays (record { shown = shown; work = w; appended = n }) (record { shown = shown; work = (outcome o w u answer).0; appended = k })
 outcome_stays (Some e) shown n k w u answer goes stays = record { told = refl; goes = goes }
 outcome_stays None shown n k w u answer goes stays = record { told = stays.told; goes = stays.goes }
 
@@ -66,47 +69,49 @@ module _ (sh : Shape) (codec : Codec) where
   memory_at x = memory_of sh spell x.work
 
   begun_reaches : (w : Work) (root : List ℕ) → Reaches w.view (begun sh spell w root)
-  begun_reaches w root =
-      let v = w.view in
-      let whole : head v - v.checkpoint.content.op ≡ length v.tail = omega arith in
-      record {
-        from = omega arith;
-        to = omega arith;
-        sessions = ap (sessions_after v.checkpoint.parts.sessions) (sym (ap (λ (n : ℕ). take n v.tail) whole ∙ take_all (length v.tail) v.tail (omega arith)));
-      }
+  begun_reaches w root = let v = w.view in let whole : head v - v.checkpoint.content.op ≡ length v.tail = omega arith in record {
+    from = omega arith;
+    to = omega arith;
+    sessions = ap (sessions_after v.checkpoint.parts.sessions)
+        (sym (ap (λ (n : ℕ). take n v.tail) whole ∙ take_all (length v.tail) v.tail (omega arith)));
+  }
 
   begin_stays : (x : Stand) (root : List ℕ) → Goes x.work → Stays x (by_loop sh codec x (Begin root))
-  begin_stays x root goes =
-      let m = memory_at x in
-      outcome_stays (first_refusal (begin_refusals m (needed_of spell m root) root)) x.shown x.appended _ x.work (with_running x.work (Some (begun sh spell x.work root))) (needed_of spell m root) goes (record { told = refl; goes = begun_reaches x.work root })
+  begin_stays x root goes = let m = memory_at x in
+      outcome_stays (first_refusal (begin_refusals m (needed_of spell m root) root)) x.shown x.appended _ x.work (with_running
+      x.work (Some (begun sh spell x.work root))) (needed_of spell m root) goes (record { told = refl; goes = begun_reaches x.work root })
 
   -- a checkpoint that ends keeps head and sessions
   ended_head : (v : View) (r : Running) → Reaches v r → r.op + length (drop (r.op - v.checkpoint.content.op) v.tail) ≡ head v
   ended_head v r reaches = omega (arith, reaches.from, reaches.to, length-drop (r.op - v.checkpoint.content.op) v.tail)
 
-  ended_sessions : (v : View) (r : Running) → Reaches v r → sessions_after r.parts.sessions (drop (r.op - v.checkpoint.content.op) v.tail) ≡ sessions v
-  ended_sessions v r reaches =
-      let n = r.op - v.checkpoint.content.op in
+  ended_sessions : (v : View) (r : Running)
+      → Reaches v r → sessions_after r.parts.sessions (drop (r.op - v.checkpoint.content.op) v.tail) ≡ sessions v
+  ended_sessions v r reaches = let n = r.op - v.checkpoint.content.op in
       ap (λ (ss : List Session). sessions_after ss (drop n v.tail)) reaches.sessions ∙ sessions-drop n v.checkpoint.parts.sessions v.tail
 
   abbrev stepped : Stand → (sum k : ℕ) → Units → Work → Stand
   stepped x sum k puts u = record { shown = record { units = overlay puts x.shown.units; damage = x.shown.damage }; work = u; appended = k }
 
-  run_stays : (x : Stand) (sum k : ℕ) (r : Running) (l : List ℕ) → Reaches x.work.view r → Stays x (stepped x sum k (trailer_puts (memory_at x) (course spell r) sum l) (after_running sh spell x.work sum r l).0)
+  run_stays : (x : Stand) (sum k : ℕ) (r : Running) (l : List ℕ) → Reaches x.work.view r
+      → Stays x (stepped x sum k (trailer_puts (memory_at x) (course spell r) sum l) (after_running sh spell x.work sum r l).0)
   run_stays x sum k r [] reaches = record {
     told = λ i. record { head = ended_head x.work.view r reaches i; replies = x.work.view.replies; sessions = ended_sessions x.work.view r reaches i; staged = x.work.staged; reads = (told_at x).reads };
     goes = tt;
   }
-  run_stays x sum k r (a ∷ more) reaches = record { told = refl; goes = record { from = reaches.from; to = reaches.to; sessions = reaches.sessions } }
+  run_stays x sum k r (a ∷ more) reaches =
+      record { told = refl; goes = record { from = reaches.from; to = reaches.to; sessions = reaches.sessions } }
 
-  step_stays : (x : Stand) (sum k : ℕ) (o : Option Running) → IsOnItsWay x.work.view o → Goes x.work → Stays x (stepped x sum k (step_puts (memory_at x) (course_of spell o) sum) (after_step_of sh spell x.work sum o).0)
+  step_stays : (x : Stand) (sum k : ℕ) (o : Option Running) → IsOnItsWay x.work.view o
+      → Goes x.work → Stays x (stepped x sum k (step_puts (memory_at x) (course_of spell o) sum) (after_step_of sh spell x.work sum o).0)
   step_stays x sum k None way goes = record { told = refl; goes = goes }
   step_stays x sum k (Some r) way goes = run_stays x sum k r r.left way
 
   advance_stays : (x : Stand) → Goes x.work → Stays x (by_loop sh codec x Advance)
   advance_stays x goes = step_stays x (supplied_sum (supplied codec x.shown (memory_at x) Advance)) _ x.work.running goes goes
 
-  check_stays : (x : Stand) (k : ℕ) (verdict : Verdict) (xs : List (ℕ × ℕ)) → Goes x.work → Stays x (record { shown = x.shown; work = (after_check x.work verdict xs).0; appended = k })
+  check_stays : (x : Stand) (k : ℕ) (verdict : Verdict) (xs : List (ℕ × ℕ))
+      → Goes x.work → Stays x (record { shown = x.shown; work = (after_check x.work verdict xs).0; appended = k })
   check_stays x k verdict [] goes = record { told = refl; goes = goes }
   check_stays x k Sound (y ∷ more) goes = record { told = refl; goes = goes }
   check_stays x k (Failing class) (y ∷ more) goes = record { told = refl; goes = goes }
@@ -130,12 +135,11 @@ module _ (sh : Shape) (codec : Codec) where
   begins_stay false root x goes = record { told = refl; goes = goes }
 
   pub behind_stays : (pace : Pace) (x : Stand) → Goes x.work → Stays x (stand_after sh codec pace x)
-  behind_stays pace x goes =
-      let begins = begin_due sh codec pace x in
-      let y = all_by_loop sh codec x begins in
+  behind_stays pace x goes = let begins = begin_due sh codec pace x in let y = all_by_loop sh codec x begins in
       let z = all_by_loop sh codec y (steps_due sh codec pace y) in
-      let joined : stand_after sh codec pace x ≡ all_by_loop sh codec z (scrubs_due pace) = loop_join sh codec x begins (steps_due sh codec pace y ++ scrubs_due pace) ∙ loop_join sh codec y (steps_due sh codec pace y) (scrubs_due pace) in
-      rw (sym joined) at
-      (then_stays x z (all_by_loop sh codec z (scrubs_due pace))
-      (then_stays x y z (begins_stay (is_begin_due pace x.appended (is_running (course_at sh codec x))) x.work.view.checkpoint.parts.root x goes) (steps_stay (min pace.steps (steps_left (course_at sh codec y))) y))
+      let joined : stand_after sh codec pace x ≡ all_by_loop sh codec z (scrubs_due pace) = loop_join sh
+      codec x begins (steps_due sh codec pace y ++ scrubs_due pace) ∙ loop_join sh codec y (steps_due sh codec pace y) (scrubs_due pace) in
+      rw (sym joined) at (then_stays x z (all_by_loop sh codec z (scrubs_due pace))
+      (then_stays x y z (begins_stay (is_begin_due pace x.appended (is_running (course_at sh codec x)))
+      x.work.view.checkpoint.parts.root x goes) (steps_stay (min pace.steps (steps_left (course_at sh codec y))) y))
       (scrubs_stay pace.scrub z))

@@ -12,18 +12,14 @@ no_comma n fits i within = let range = digit_at (decimal n) i (are_digits n fits
 -- a text has one first comma
 one_comma : (xs a ys b : List ℕ) → AllDigits 10 xs → AllDigits 10 ys → xs ++ (44 ∷ a) ≡ ys ++ (44 ∷ b) → (xs ≡ ys) × (a ≡ b)
 one_comma [] a [] b one other same = (refl, cc same)
-one_comma [] a (y ∷ ys) b one other same =
-    let head : 44 ≡ y = cc same in absurd (omega (arith, (digit_from_value y other.0).0, head))
-one_comma (x ∷ xs) a [] b one other same =
-    let head : x ≡ 44 = cc same in absurd (omega (arith, (digit_from_value x one.0).0, head))
-one_comma (x ∷ xs) a (y ∷ ys) b one other same =
-    let head : x ≡ y = cc same in
-    let tail : xs ++ (44 ∷ a) ≡ ys ++ (44 ∷ b) = cc same in
-    let rest = one_comma xs a ys b one.1 other.1 tail in
-    (let parts = rest.0 in cc (head, parts), rest.1)
+one_comma [] a (y ∷ ys) b one other same = let head : 44 ≡ y = cc same in absurd (omega (arith, (digit_from_value y other.0).0, head))
+one_comma (x ∷ xs) a [] b one other same = let head : x ≡ 44 = cc same in absurd (omega (arith, (digit_from_value x one.0).0, head))
+one_comma (x ∷ xs) a (y ∷ ys) b one other same = let head : x ≡ y = cc same in let tail : xs ++ (44 ∷ a) ≡ ys ++ (44 ∷ b) = cc same in
+    let rest = one_comma xs a ys b one.1 other.1 tail in (let parts = rest.0 in cc (head, parts), rest.1)
 
 -- a text has one number before its first comma
-pub behind : (text rest more : List ℕ) (m n : ℕ) → m < 2 ^ 32 → n < 2 ^ 32 → text ≡ decimal m ++ (44 ∷ rest) → text ≡ decimal n ++ (44 ∷ more) → (m ≡ n) × (rest ≡ more)
+pub behind : (text rest more : List ℕ) (m n : ℕ)
+    → m < 2 ^ 32 → n < 2 ^ 32 → text ≡ decimal m ++ (44 ∷ rest) → text ≡ decimal n ++ (44 ∷ more) → (m ≡ n) × (rest ≡ more)
 behind text rest more m n m_fits n_fits one other =
     let parts = one_comma (decimal m) rest (decimal n) more (are_digits m m_fits) (are_digits n n_fits) (sym one ∙ other) in
     (decimal_injective m n (omega arith) (omega arith) parts.0, parts.1)
@@ -64,17 +60,21 @@ pub record Cuts (text : List ℕ) (n : ℕ) (rest : List ℕ) : Type 0 where
   pub is : text ≡ decimal n ++ (44 ∷ rest)
   pub fits : n < 2 ^ 32
 
-pub past_slots : (text rest : List ℕ) (n : ℕ) (l : Layout) → Cuts text n rest → text ≡ numbers_of l → (n ≡ l.slots) × (rest ≡ from_message_size l)
+pub past_slots : (text rest : List ℕ) (n : ℕ) (l : Layout)
+    → Cuts text n rest → text ≡ numbers_of l → (n ≡ l.slots) × (rest ≡ from_message_size l)
 unfolding numbers_of
 past_slots text rest n l cuts is = behind text rest (from_message_size l) n l.slots cuts.fits (fit l).slots cuts.is is
 
-pub past_message_size : (text rest : List ℕ) (n : ℕ) (l : Layout) → Cuts text n rest → text ≡ from_message_size l → (n ≡ l.message_size) × (rest ≡ from_clients l)
+pub past_message_size : (text rest : List ℕ) (n : ℕ) (l : Layout)
+    → Cuts text n rest → text ≡ from_message_size l → (n ≡ l.message_size) × (rest ≡ from_clients l)
 past_message_size text rest n l cuts is = behind text rest (from_clients l) n l.message_size cuts.fits (fit l).message_size cuts.is is
 
-pub past_clients : (text rest : List ℕ) (n : ℕ) (l : Layout) → Cuts text n rest → text ≡ from_clients l → (n ≡ l.clients) × (rest ≡ from_block_size l)
+pub past_clients : (text rest : List ℕ) (n : ℕ) (l : Layout)
+    → Cuts text n rest → text ≡ from_clients l → (n ≡ l.clients) × (rest ≡ from_block_size l)
 past_clients text rest n l cuts is = behind text rest (from_block_size l) n l.clients cuts.fits (fit l).clients cuts.is is
 
-pub past_block_size : (text rest : List ℕ) (n : ℕ) (l : Layout) → Cuts text n rest → text ≡ from_block_size l → (n ≡ l.block_size) × (rest ≡ from_blocks l)
+pub past_block_size : (text rest : List ℕ) (n : ℕ) (l : Layout)
+    → Cuts text n rest → text ≡ from_block_size l → (n ≡ l.block_size) × (rest ≡ from_blocks l)
 past_block_size text rest n l cuts is = behind text rest (from_blocks l) n l.block_size cuts.fits (fit l).block_size cuts.is is
 
 -- ---- a text in which a number is missing is no layout's
@@ -129,7 +129,8 @@ pub record Five (text : List ℕ) (a b c d e : ℕ) : Type 0 where
   pub last : behind_d ≡ decimal e
   pub last_fits : e < 2 ^ 32
 
-pub five : (text p q r s word : List ℕ) (a b c d e : ℕ) → Cuts text a p → Cuts p b q → Cuts q c r → Cuts r d s → word ≡ s → word ≡ decimal e → e < 2 ^ 32 → Five text a b c d e
+pub five : (text p q r s word : List ℕ) (a b c d e : ℕ)
+    → Cuts text a p → Cuts p b q → Cuts q c r → Cuts r d s → word ≡ s → word ≡ decimal e → e < 2 ^ 32 → Five text a b c d e
 five text p q r s word a b c d e cuts_a cuts_b cuts_c cuts_d is last fits = record {
   behind_a = p;
   behind_b = q;
@@ -152,12 +153,10 @@ pub record Same (l : Layout) (a b c d e : ℕ) : Type 0 where
   pub blocks : e ≡ l.blocks
 
 pub one_five : (text : List ℕ) (a b c d e : ℕ) (l : Layout) → Five text a b c d e → text ≡ numbers_of l → Same l a b c d e
-one_five text a b c d e l five is =
-    let first = past_slots text five.behind_a a l five.cuts_a is in
+one_five text a b c d e l five is = let first = past_slots text five.behind_a a l five.cuts_a is in
     let second = past_message_size five.behind_a five.behind_b b l five.cuts_b first.1 in
     let third = past_clients five.behind_b five.behind_c c l five.cuts_c second.1 in
-    let fourth = past_block_size five.behind_c five.behind_d d l five.cuts_d third.1 in
-    record {
+    let fourth = past_block_size five.behind_c five.behind_d d l five.cuts_d third.1 in record {
       slots = first.0;
       message_size = second.0;
       clients = third.0;
@@ -167,10 +166,7 @@ one_five text a b c d e l five is =
 
 pub are_five : (text : List ℕ) (a b c d e : ℕ) (l : Layout) → Five text a b c d e → Same l a b c d e → text ≡ numbers_of l
 unfolding numbers_of
-are_five text a b c d e l five same =
-    let a_is = five.cuts_a.is in
-    let b_is = five.cuts_b.is in
-    let c_is = five.cuts_c.is in
+are_five text a b c d e l five same = let a_is = five.cuts_a.is in let b_is = five.cuts_b.is in let c_is = five.cuts_c.is in
     let d_is = five.cuts_d.is in
     rw (a_is, b_is, c_is, d_is, five.last, same.slots, same.message_size, same.clients, same.block_size, same.blocks) refl
 
@@ -186,7 +182,8 @@ within l a b c d e same = rw (same.slots, same.message_size, same.clients, same.
 
 -- the layout that is made of five numbers has them
 pub made : (text : List ℕ) (a b c d e : ℕ) (r : Result Layout Field) (o : Option Layout) → Five text a b c d e → o ≡ result_ok r
-    → IfOk r (λ l. l.slots ≡ a) → IfOk r (λ l. l.message_size ≡ b) → IfOk r (λ l. l.clients ≡ c) → IfOk r (λ l. l.block_size ≡ d) → IfOk r (λ l. l.blocks ≡ e)
+    → IfOk r (λ l. l.slots ≡ a)
+    → IfOk r (λ l. l.message_size ≡ b) → IfOk r (λ l. l.clients ≡ c) → IfOk r (λ l. l.block_size ≡ d) → IfOk r (λ l. l.blocks ≡ e)
     → IfSome o (λ l. text ≡ numbers_of l)
 made text a b c d e (Ok l) o five is slots message_size clients block_size blocks =
     let same : Same l a b c d e = record { slots = sym slots; message_size = sym message_size; clients = sym clients; block_size = sym block_size; blocks = sym blocks } in

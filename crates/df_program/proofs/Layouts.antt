@@ -6,15 +6,12 @@ use Rattle.df_program.{specs.Names.{HasNumbers, OneLayout, numbers_of}, proofs.C
 -- what begins with digits begins with one
 first_digit : (ds rest : List ℕ) (x : ℕ) (xs : List ℕ) → AllDigits 10 ds → 0 < length ds → x ∷ xs ≡ ds ++ rest → (48 ≤ x) × (x ≤ 57)
 first_digit [] rest x xs all some is = absurd (omega arith)
-first_digit (d ∷ ds) rest x xs all some is =
-    let head : x ≡ d = cc is in
-    let range = digit_from_value d all.0 in
+first_digit (d ∷ ds) rest x xs all some is = let head : x ≡ d = cc is in let range = digit_from_value d all.0 in
     (omega (arith, range.0, head), omega (arith, range.1, head))
 
 numbers_begin : (l : Layout) (x : ℕ) (xs : List ℕ) → x ∷ xs ≡ numbers_of l → (48 ≤ x) × (x ≤ 57)
 unfolding numbers_of
-numbers_begin l x xs is =
-    let numeral = decimal_is_IsNumeral l.slots (omega (arith, (fit l).slots)) in
+numbers_begin l x xs is = let numeral = decimal_is_IsNumeral l.slots (omega (arith, (fit l).slots)) in
     first_digit (decimal l.slots) (44 ∷ from_message_size l) x xs numeral.0.1 numeral.0.0 is
 
 small_no_numbers : (l : Layout) → codes "small" ≡ numbers_of l → ⊥
@@ -28,24 +25,22 @@ small_no_large is = let first : 115 ≡ 108 = ap (λ (l : List ℕ). get_or l 0 
 
 five_of : (text : List ℕ) (l : Layout) → text ≡ numbers_of l → Five text l.slots l.message_size l.clients l.block_size l.blocks
 unfolding numbers_of
-five_of text l is =
-    let fits = fit l in
-    record {
-      behind_a = from_message_size l;
-      behind_b = from_clients l;
-      behind_c = from_block_size l;
-      behind_d = from_blocks l;
-      cuts_a = record { is = is; fits = fits.slots };
-      cuts_b = record { is = refl; fits = fits.message_size };
-      cuts_c = record { is = refl; fits = fits.clients };
-      cuts_d = record { is = refl; fits = fits.block_size };
-      last = refl;
-      last_fits = fits.blocks;
-    }
+five_of text l is = let fits = fit l in record {
+  behind_a = from_message_size l;
+  behind_b = from_clients l;
+  behind_c = from_block_size l;
+  behind_d = from_blocks l;
+  cuts_a = record { is = is; fits = fits.slots };
+  cuts_b = record { is = refl; fits = fits.message_size };
+  cuts_c = record { is = refl; fits = fits.clients };
+  cuts_d = record { is = refl; fits = fits.block_size };
+  last = refl;
+  last_fits = fits.blocks;
+}
 
 same_numbers : (l m : Layout) (a b c d e : ℕ) → HasNumbers l a b c d e → HasNumbers m a b c d e → l ≡ m
-same_numbers l m a b c d e one other =
-    same_layout l m (one.slots ∙ sym other.slots) (one.message_size ∙ sym other.message_size) (one.clients ∙ sym other.clients) (one.block_size ∙ sym other.block_size) (one.blocks ∙ sym other.blocks)
+same_numbers l m a b c d e one other = same_layout l m (one.slots ∙ sym other.slots) (one.message_size
+    ∙ sym other.message_size) (one.clients ∙ sym other.clients) (one.block_size ∙ sym other.block_size) (one.blocks ∙ sym other.blocks)
 
 pub one_layout : OneLayout
 one_layout name l m (inl x) (inl y) = same_numbers l m 32 8192 4 16384 64 x.1 y.1

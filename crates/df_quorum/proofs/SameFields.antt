@@ -10,72 +10,46 @@ option_decides (Some x) (Some y) = (λ is. ap Some ((Decides-eqb x y).0 is), λ 
 
 -- the test of all fields, in their order
 abbrev same : SuperFields → SuperFields → Bool
-same f g =
-    (f.version == g.version)
-    && ((f.slots == g.slots)
-    && ((f.message_size == g.message_size)
-    && ((f.clients == g.clients)
-    && ((f.block_size == g.block_size)
-    && ((f.blocks == g.blocks)
-    && ((f.cluster == g.cluster)
-    && ((f.sequence == g.sequence)
-    && ((f.op == g.op)
-    && (bytes_eq f.op_checksum g.op_checksum
-    && ((f.head == g.head)
-    && ((f.replies == g.replies)
-    && ((f.trailer_address == g.trailer_address)
-    && (bytes_eq f.trailer_checksum g.trailer_checksum
-    && ((f.trailer_size == g.trailer_size)
-    && ((f.boot == g.boot)
-    && (bytes_eq f.head_checksum g.head_checksum
-    && (pointwise bytes_eq f.reply_checksums g.reply_checksums
+same f g = (f.version == g.version) && ((f.slots == g.slots) && ((f.message_size == g.message_size) && ((f.clients == g.clients)
+    && ((f.block_size == g.block_size) && ((f.blocks == g.blocks) && ((f.cluster == g.cluster) && ((f.sequence == g.sequence)
+    && ((f.op == g.op) && (bytes_eq f.op_checksum g.op_checksum && ((f.head == g.head) && ((f.replies == g.replies)
+    && ((f.trailer_address == g.trailer_address) && (bytes_eq f.trailer_checksum g.trailer_checksum && ((f.trailer_size == g.trailer_size)
+    && ((f.boot == g.boot) && (bytes_eq f.head_checksum g.head_checksum && (pointwise bytes_eq f.reply_checksums g.reply_checksums
     && (option_eq eqb f.first_nonzero g.first_nonzero))))))))))))))))))
 
 pub same_decides : (f g : SuperFields) (b : Bool) → b ≡ same f g → IsTrue b ↔ (f ≡ g)
-same_decides f g b is =
-    let each =
-    Decides-and _ _ (Decides-eqb f.version g.version)
-    (Decides-and _ _ (Decides-eqb f.slots g.slots)
-    (Decides-and _ _ (Decides-eqb f.message_size g.message_size)
-    (Decides-and _ _ (Decides-eqb f.clients g.clients)
-    (Decides-and _ _ (Decides-eqb f.block_size g.block_size)
-    (Decides-and _ _ (Decides-eqb f.blocks g.blocks)
-    (Decides-and _ _ (Decides-eqb f.cluster g.cluster)
-    (Decides-and _ _ (Decides-eqb f.sequence g.sequence)
-    (Decides-and _ _ (Decides-eqb f.op g.op)
-    (Decides-and _ _ (bytes_eq-Decides f.op_checksum g.op_checksum)
-    (Decides-and _ _ (Decides-eqb f.head g.head)
-    (Decides-and _ _ (Decides-eqb f.replies g.replies)
+same_decides f g b is = let each = Decides-and _ _ (Decides-eqb f.version g.version) (Decides-and _ _ (Decides-eqb f.slots g.slots)
+    (Decides-and _ _ (Decides-eqb f.message_size g.message_size) (Decides-and _ _ (Decides-eqb f.clients g.clients)
+    (Decides-and _ _ (Decides-eqb f.block_size g.block_size) (Decides-and _ _ (Decides-eqb f.blocks g.blocks)
+    (Decides-and _ _ (Decides-eqb f.cluster g.cluster) (Decides-and _ _ (Decides-eqb f.sequence g.sequence)
+    (Decides-and _ _ (Decides-eqb f.op g.op) (Decides-and _ _ (bytes_eq-Decides f.op_checksum g.op_checksum)
+    (Decides-and _ _ (Decides-eqb f.head g.head) (Decides-and _ _ (Decides-eqb f.replies g.replies)
     (Decides-and _ _ (Decides-eqb f.trailer_address g.trailer_address)
-    (Decides-and _ _ (bytes_eq-Decides f.trailer_checksum g.trailer_checksum)
-    (Decides-and _ _ (Decides-eqb f.trailer_size g.trailer_size)
-    (Decides-and _ _ (Decides-eqb f.boot g.boot)
-    (Decides-and _ _ (bytes_eq-Decides f.head_checksum g.head_checksum)
+    (Decides-and _ _ (bytes_eq-Decides f.trailer_checksum g.trailer_checksum) (Decides-and _ _ (Decides-eqb f.trailer_size g.trailer_size)
+    (Decides-and _ _ (Decides-eqb f.boot g.boot) (Decides-and _ _ (bytes_eq-Decides f.head_checksum g.head_checksum)
     (Decides-and _ _ (slice_eq-Decides bytes_eq-Decides f.reply_checksums g.reply_checksums _ refl)
     (option_decides f.first_nonzero g.first_nonzero)))))))))))))))))) in (
-      λ holds.
-          let p = each.0 (sym is ∙ holds) in
-          λ i. record {
-            version = p.0 i;
-            slots = p.1.0 i;
-            message_size = p.1.1.0 i;
-            clients = p.1.1.1.0 i;
-            block_size = p.1.1.1.1.0 i;
-            blocks = p.1.1.1.1.1.0 i;
-            cluster = p.1.1.1.1.1.1.0 i;
-            sequence = p.1.1.1.1.1.1.1.0 i;
-            op = p.1.1.1.1.1.1.1.1.0 i;
-            op_checksum = p.1.1.1.1.1.1.1.1.1.0 i;
-            head = p.1.1.1.1.1.1.1.1.1.1.0 i;
-            replies = p.1.1.1.1.1.1.1.1.1.1.1.0 i;
-            trailer_address = p.1.1.1.1.1.1.1.1.1.1.1.1.0 i;
-            trailer_checksum = p.1.1.1.1.1.1.1.1.1.1.1.1.1.0 i;
-            trailer_size = p.1.1.1.1.1.1.1.1.1.1.1.1.1.1.0 i;
-            boot = p.1.1.1.1.1.1.1.1.1.1.1.1.1.1.1.0 i;
-            head_checksum = p.1.1.1.1.1.1.1.1.1.1.1.1.1.1.1.1.0 i;
-            reply_checksums = p.1.1.1.1.1.1.1.1.1.1.1.1.1.1.1.1.1.0 i;
-            first_nonzero = p.1.1.1.1.1.1.1.1.1.1.1.1.1.1.1.1.1.1 i;
-          },
+      λ holds. let p = each.0 (sym is ∙ holds) in λ i. record {
+        version = p.0 i;
+        slots = p.1.0 i;
+        message_size = p.1.1.0 i;
+        clients = p.1.1.1.0 i;
+        block_size = p.1.1.1.1.0 i;
+        blocks = p.1.1.1.1.1.0 i;
+        cluster = p.1.1.1.1.1.1.0 i;
+        sequence = p.1.1.1.1.1.1.1.0 i;
+        op = p.1.1.1.1.1.1.1.1.0 i;
+        op_checksum = p.1.1.1.1.1.1.1.1.1.0 i;
+        head = p.1.1.1.1.1.1.1.1.1.1.0 i;
+        replies = p.1.1.1.1.1.1.1.1.1.1.1.0 i;
+        trailer_address = p.1.1.1.1.1.1.1.1.1.1.1.1.0 i;
+        trailer_checksum = p.1.1.1.1.1.1.1.1.1.1.1.1.1.0 i;
+        trailer_size = p.1.1.1.1.1.1.1.1.1.1.1.1.1.1.0 i;
+        boot = p.1.1.1.1.1.1.1.1.1.1.1.1.1.1.1.0 i;
+        head_checksum = p.1.1.1.1.1.1.1.1.1.1.1.1.1.1.1.1.0 i;
+        reply_checksums = p.1.1.1.1.1.1.1.1.1.1.1.1.1.1.1.1.1.0 i;
+        first_nonzero = p.1.1.1.1.1.1.1.1.1.1.1.1.1.1.1.1.1.1 i;
+      },
       λ all. is ∙ each.1 (
         ap (λ (x : SuperFields). x.version) all,
         (

@@ -1,10 +1,8 @@
 -- The checkpoint of a superblock: with the trailer that was read, or with none.
 use Rattle.std.{proofs.Common.{◌≡◌, ◌≢◌, inl, inr, ℕ, zero, suc, ◌-◌, ◌<◌, List, [], ◌∷◌, Option, Some, None, refl, sym, ◌∙◌, ap, subst, arith}, specs.Prelude.{Ok, Err, IfSome}}
-use Rattle.df_base.{specs.Image.{Image}, proofs.Laws.{some_number}}
-use Rattle.df_disk.specs.Told.{Told}
+use Rattle.{df_base.{specs.Image.{Image}, proofs.Laws.{some_number}}, df_disk.specs.Told.{Told}, df_sessions.specs.Requests.{sessions_of}}
 use Rattle.df_layout.specs.{declared.fields.Field.TheVariants.{Pending}, declared.layout.Layout.{Layout}}
 use Rattle.df_format.specs.{Copies.{content_with}, SuperRules.{IsSuper}, declared.superblock.SuperFields.{SuperFields}}
-use Rattle.df_sessions.specs.Requests.{sessions_of}
 use Rattle.df_theory.specs.Units
 use Rattle.df_theory.specs.{Sessions.{Has, Tracks}, Trailer.{InChain, IsReference, IsTrailer, no_parts, text_of}}
 use Rattle.df_model.specs.{Blocks.{addresses, entries}, Supply.{Shown}}
@@ -30,7 +28,8 @@ empty_fits file g rooms are = record {
 }
 
 -- the room that a reader takes is of the trailer's layout
-pub room_fits : (o : Option ReaderRoom) (room : ReaderRoom) (layout : Layout) → IfSome o (λ r. r.layout ≡ layout) → Some room ≡ o → room.layout ≡ layout
+pub room_fits : (o : Option ReaderRoom) (room : ReaderRoom) (layout : Layout)
+    → IfSome o (λ r. r.layout ≡ layout) → Some room ≡ o → room.layout ≡ layout
 room_fits o room layout fits is = subst (λ (x : Option ReaderRoom). IfSome x (λ r. r.layout ≡ layout)) (sym is) fits
 
 -- ---- no trailer
@@ -47,9 +46,11 @@ no_entries [] = refl
 no_entries (a ∷ list) = no_entries list
 
 none_read : (l : Units.Layout) → no_blocks ≡ blocks_read l no_parts []
-none_read l = ap (λ (xs : List (ℕ × ℕ)). record { live = xs; captured = []; written = []; left = []; durable = xs; chain = [] }) (sym (no_entries (addresses l)))
+none_read l = ap (λ (xs : List (ℕ × ℕ)).
+    record { live = xs; captured = []; written = []; left = []; durable = xs; chain = [] }) (sym (no_entries (addresses l)))
 
-module _ (file : DataFile) (image : Units.Units) (f : SuperFields) (of : AreFieldsOf file.layout file.cluster f) (usable : IsSuper f) (none : f.trailer_address ≡ 0) where
+module _ (file : DataFile) (image : Units.Units)
+    (f : SuperFields) (of : AreFieldsOf file.layout file.cluster f) (usable : IsSuper f) (none : f.trailer_address ≡ 0) where
   reference : IsReference (layout_of file.layout) (content_in f)
   reference = (usable_passes file.layout file.cluster file.named (parse_of (layout_of file.layout)) (content_with f) of usable).1
 
@@ -77,24 +78,30 @@ module _ (file : DataFile) (image : Units.Units) (f : SuperFields) (of : AreFiel
   }
 
 -- and so it is of a disk, told or not
-pub told_none : (file : DataFile) (told : Option Told) (f : SuperFields) (base : Base) → AreFieldsOf file.layout file.cluster f → IsSuper f → f.trailer_address ≡ 0 → base ≡ record { root = []; sessions = []; blocks = no_blocks } → TellsCheckpoint file told f (Ok base)
+pub told_none : (file : DataFile) (told : Option Told) (f : SuperFields) (base : Base) → AreFieldsOf file.layout file.cluster f → IsSuper f
+    → f.trailer_address ≡ 0 → base ≡ record { root = []; sessions = []; blocks = no_blocks } → TellsCheckpoint file told f (Ok base)
 told_none file None f base of usable none is = tt
-told_none file (Some t) f base of usable none is = subst (HasCheckpoint file (unit_at file.layout file.cluster t.shown) f) (sym is) (no_base file (unit_at file.layout file.cluster t.shown) f of usable none)
+told_none file (Some t) f base of usable none is = subst (HasCheckpoint file (unit_at file.layout file.cluster t.shown) f)
+    (sym is) (no_base file (unit_at file.layout file.cluster t.shown) f of usable none)
 
 -- ---- a trailer that was read
 
 -- what the reader gives of each text that it was fed
 abbrev pub GivesParts : Reader → rooms.Parts → Type 0
-GivesParts reader parts = (layout : Layout) (op : ℕ) (text : List ℕ) → HasRead layout op reader text → AreParts (layout_of layout) parts (parts_of (layout_of layout) text)
+GivesParts reader parts = (layout : Layout) (op : ℕ) (text : List ℕ)
+    → HasRead layout op reader text → AreParts (layout_of layout) parts (parts_of (layout_of layout) text)
 
-module _ (file : DataFile) (shown : Shown) (f : SuperFields) (g : GridState) (reader : Reader) (parts : rooms.Parts) (adopted : IsAdopted (shape file) shown (content_in f) g reader) (same : g.layout ≡ file.layout) (gives : GivesParts reader parts) where
+module _ (file : DataFile) (shown : Shown) (f : SuperFields) (g : GridState) (reader : Reader) (parts : rooms.Parts)
+    (adopted : IsAdopted (shape file) shown (content_in f) g reader) (same : g.layout ≡ file.layout) (gives : GivesParts reader parts) where
   said : AreParts (layout_of file.layout) parts adopted.parts
-  said = subst (AreParts (layout_of file.layout) parts) (sym adopted.parts_are) (gives file.layout f.op (text_of adopted.chain) (rw same at adopted.has))
+  said = subst (AreParts (layout_of file.layout) parts)
+      (sym adopted.parts_are) (gives file.layout f.op (text_of adopted.chain) (rw same at adopted.has))
 
   sessions_said : adopted.parts.sessions ≡ sessions_of parts.sessions.items
   sessions_said = sym (ap sessions_of said.sessions ∙ sessions_back adopted.parts.sessions)
 
-  pub adopted_text : (image : Units.Units) → shown.units ≡ image → HasText file image f (record { root = parts.root.items; sessions = parts.sessions.items; blocks = g.blocks })
+  pub adopted_text : (image : Units.Units)
+      → shown.units ≡ image → HasText file image f (record { root = parts.root.items; sessions = parts.sessions.items; blocks = g.blocks })
   unfolding said sessions_said
   adopted_text image is = record {
     chain = adopted.chain;
@@ -109,7 +116,8 @@ module _ (file : DataFile) (shown : Shown) (f : SuperFields) (g : GridState) (re
 -- ---- the ops that wait
 
 -- each of them has its session
-text_tracked : (file : DataFile) (image : Units.Units) (f : SuperFields) (base : Base) → HasText file image f base → AreReadSessions file.layout.clients f.op base.sessions → IsPendingReply base.sessions f.replies f.op None → HasCheckpoint file image f base
+text_tracked : (file : DataFile) (image : Units.Units) (f : SuperFields) (base : Base) → HasText file image f base → AreReadSessions
+    file.layout.clients f.op base.sessions → IsPendingReply base.sessions f.replies f.op None → HasCheckpoint file image f base
 text_tracked file image f base text read pending = record {
   chain = text.chain;
   parts = text.parts;
@@ -122,7 +130,8 @@ text_tracked file image f base text read pending = record {
 }
 
 -- one of them has none
-text_untracked : (file : DataFile) (shown : Shown) (f : SuperFields) (base : Base) (n : ℕ) → HasText file shown.units f base → 0 < f.trailer_address → IsPendingReply base.sessions f.replies f.op (Some n) → IsUntracked (shape file) shown (content_in f) n
+text_untracked : (file : DataFile) (shown : Shown) (f : SuperFields) (base : Base) (n : ℕ) → HasText file shown.units f base
+    → 0 < f.trailer_address → IsPendingReply base.sessions f.replies f.op (Some n) → IsUntracked (shape file) shown (content_in f) n
 text_untracked file shown f base n text named lacking = record {
   chain = text.chain;
   whole = record {
@@ -134,7 +143,8 @@ text_untracked file shown f base n text named lacking = record {
   };
   parts = text.parts;
   spare = text.trailer.spare;
-  says = its_text (shape file) f.op text.chain text.parts (some_chain (file.layout.block_size - 256) (content_in f) text.chain named text.trailer.links) text.trailer.says;
+  says = its_text (shape file) f.op text.chain
+      text.parts (some_chain (file.layout.block_size - 256) (content_in f) text.chain named text.trailer.links) text.trailer.says;
   above = lacking.above;
   reached = lacking.reached;
   lacks = λ has. has_not n base.sessions lacking.lacks (rw text.sessions_are at has);
@@ -143,27 +153,31 @@ text_untracked file shown f base n text named lacking = record {
 
 -- ---- of a disk, told or not
 
-pub told_text : (file : DataFile) (told : Option Told) (f : SuperFields) (g h : GridState) (reader : Reader) (parts : rooms.Parts) → h.layout ≡ file.layout → h.cluster ≡ file.cluster → g.layout ≡ file.layout
-    → OfTold h told (λ shown. ChainAnswer (shape file) shown (content_in f) g reader (Ok tt)) → GivesParts reader parts → TellsText file told f (record { root = parts.root.items; sessions = parts.sessions.items; blocks = g.blocks })
+pub told_text : (file : DataFile) (told : Option Told) (f : SuperFields) (g h : GridState) (reader : Reader) (parts : rooms.Parts)
+    → h.layout ≡ file.layout → h.cluster ≡ file.cluster → g.layout ≡ file.layout
+    → OfTold h told (λ shown. ChainAnswer (shape file) shown (content_in f) g reader (Ok tt)) → GivesParts reader parts
+    → TellsText file told f (record { root = parts.root.items; sessions = parts.sessions.items; blocks = g.blocks })
 told_text file None f g h reader parts layout cluster same answer gives = tt
-told_text file (Some t) f g h reader parts layout cluster same answer gives =
-    adopted_text file (shown_of h.layout h.cluster t.shown) f g reader parts answer same gives (unit_at file.layout file.cluster t.shown) (λ i. unit_at (layout i) (cluster i) t.shown)
+told_text file (Some t) f g h reader parts layout cluster same answer gives = adopted_text file (shown_of h.layout h.cluster t.shown)
+    f g reader parts answer same gives (unit_at file.layout file.cluster t.shown) (λ i. unit_at (layout i) (cluster i) t.shown)
 
-pub told_base : (file : DataFile) (told : Option Told) (f : SuperFields) (base : Base) → TellsText file told f base → AreReadSessions file.layout.clients f.op base.sessions → IsPendingReply base.sessions f.replies f.op None → TellsCheckpoint file told f (Ok base)
+pub told_base : (file : DataFile) (told : Option Told) (f : SuperFields) (base : Base) → TellsText file told f base → AreReadSessions
+    file.layout.clients f.op base.sessions → IsPendingReply base.sessions f.replies f.op None → TellsCheckpoint file told f (Ok base)
 told_base file None f base text read pending = tt
 told_base file (Some t) f base text read pending = text_tracked file (unit_at file.layout file.cluster t.shown) f base text read pending
 
 -- an op that waits has no session
-pub told_untracked : (file : DataFile) (told : Option Told) (f : SuperFields) (base : Base) (n : ℕ) → f.trailer_address ≢ 0 → TellsText file told f base → IsPendingReply base.sessions f.replies f.op (Some n) → TellsCheckpoint file told f (Err (OpenError.BadField Pending n))
+pub told_untracked : (file : DataFile) (told : Option Told) (f : SuperFields) (base : Base) (n : ℕ) → f.trailer_address ≢ 0 → TellsText file
+    told f base → IsPendingReply base.sessions f.replies f.op (Some n) → TellsCheckpoint file told f (Err (OpenError.BadField Pending n))
 told_untracked file None f base n named text lacking = tt
-told_untracked file (Some t) f base n named text lacking =
-    let some = some_number f.trailer_address named in (
-      some,
-      inr (inr (inr (refl, text_untracked file (shown_of file.layout file.cluster t.shown) f base n text some lacking))),
-    )
+told_untracked file (Some t) f base n named text lacking = let some = some_number f.trailer_address named in (
+  some,
+  inr (inr (inr (refl, text_untracked file (shown_of file.layout file.cluster t.shown) f base n text some lacking))),
+)
 
 -- the trailer is refused
-refused_shown : (file : DataFile) (image : Image) (f : SuperFields) (g : GridState) (reader : Reader) (e : TrailerFault) → 0 < f.trailer_address → ChainAnswer (shape file) (shown_of file.layout file.cluster image) (content_in f) g reader (Err e)
+refused_shown : (file : DataFile) (image : Image) (f : SuperFields) (g : GridState) (reader : Reader) (e : TrailerFault)
+    → 0 < f.trailer_address → ChainAnswer (shape file) (shown_of file.layout file.cluster image) (content_in f) g reader (Err e)
     → RefusesTrailer file image f (error_of e)
 refused_shown file image f g reader (Damaged address class) named answer = (named, address, refl, answer)
 refused_shown file image f g reader (BadField field value) named (inl broken) = (named, inl broken)
@@ -171,11 +185,13 @@ refused_shown file image f g reader (BadField field value) named (inr (inl text)
 refused_shown file image f g reader (BadField field value) named (inr (inr referenced)) = (named, inr (inr (inl referenced)))
 refused_shown file image f g reader DiskFault named answer = tt
 
-pub told_refused : (file : DataFile) (told : Option Told) (f : SuperFields) (g h : GridState) (reader : Reader) (e : TrailerFault) → h.layout ≡ file.layout → h.cluster ≡ file.cluster → f.trailer_address ≢ 0
+pub told_refused : (file : DataFile) (told : Option Told) (f : SuperFields) (g h : GridState) (reader : Reader) (e : TrailerFault)
+    → h.layout ≡ file.layout → h.cluster ≡ file.cluster → f.trailer_address ≢ 0
     → OfTold h told (λ shown. ChainAnswer (shape file) shown (content_in f) g reader (Err e)) → TellsCheckpoint file told f (Err (error_of e))
 told_refused file None f g h reader e layout cluster named answer = tt
 told_refused file (Some t) f g h reader e layout cluster named answer =
-    refused_shown file t.shown f g reader e (some_number f.trailer_address named) (subst (λ (shown : Shown). ChainAnswer (shape file) shown (content_in f) g reader (Err e)) (λ i. shown_of (layout i) (cluster i) t.shown) answer)
+    refused_shown file t.shown f g reader e (some_number f.trailer_address named) (subst (λ (shown : Shown).
+    ChainAnswer (shape file) shown (content_in f) g reader (Err e)) (λ i. shown_of (layout i) (cluster i) t.shown) answer)
 
 pub told_fault : (file : DataFile) (told : Option Told) (f : SuperFields) → TellsCheckpoint file told f (Err OpenError.DiskFault)
 told_fault file None f = tt

@@ -1,18 +1,14 @@
 -- How many prepares wait after a tail that is found: by an image that shows what the tables say.
 use Rattle.std.{proofs.{Common.{◌≡◌, ◌≢◌, ◌^◌, inl, inr, ℕ, ◌+◌, ◌<◌, ◌≤◌, List, [], ◌∷◌, length, Option, Some, None, refl, sym, ap, subst, arith}, lemmas.Bool.{cases_lt}, lemmas.Option.{slice_get_past}}, specs.{Prelude.{Result, Ok, Err}, List.{slice_get}}}
-use Rattle.df_layout.specs.{declared.damage.Class.{Class}, declared.layout.Layout.{Layout}}
+use Rattle.{df_layout.specs.declared.{damage.Class.{Class}, layout.Layout.{Layout}}, df_buffers.specs.declared.slots.SlotSeen.{SlotSeen}}
 use Rattle.df_format.specs.{Copies.{content_with}, SuperRules.{IsSuper}, declared.header.Header.{Header}, declared.superblock.SuperFields.{SuperFields}}
-use Rattle.df_buffers.specs.declared.slots.SlotSeen.{SlotSeen}
-use Rattle.df_sessions.specs.{declared.session.Session.{Session}, Requests.{sessions_of}}
+use Rattle.{df_sessions.specs.{declared.session.Session.{Session}, Requests.{sessions_of}}, df_recovery.specs.Known.{IsBaseOf}}
 use Rattle.df_stamps.specs.{declared.counters.Counters.{Counters}, Evidence.{IsComplete}}
 use Rattle.df_theory.specs.Units
 use Rattle.df_theory.{specs.{Units.{AnyUnit, BlockPlace, CopyPlace, HeaderPlace, HeaderUnit, Message, PreparePlace, PrepareUnit, ReplyPlace, ReplyUnit}, Found.{IsReplies}, Sessions.{MayAsk, Tracks, noted, sessions_after}, Tails.{Chain, last_mark}, Shape.{Shape}, View.{Checkpoint}}, proofs.Laws.{tracks_chain, chain_near}}
-use Rattle.df_rooms.{specs.State.{AreAsked}, proofs.Laws.{asked_noted}}
-use Rattle.df_units.specs.{Format.{shape_of}, Meaning.{content_of, header_of}}
+use Rattle.{df_rooms.{specs.State.{AreAsked}, proofs.Laws.{asked_noted}}, df_group.specs.declared.{reach.Reach.{Reach}, groups.Tail.{Tail}}}
+use Rattle.{df_units.specs.{Format.{shape_of}, Meaning.{content_of, header_of}}, df_replies.specs.Shown.{ShowsReplies, ShowsReply}}
 use Rattle.df_journal.{specs.{Shows.{ShowsHeader, ShowsPrepare, ShowsTable}, Counts.{CountsReplies}, Tail.{IsReached}}, proofs.Laws.{own_within}}
-use Rattle.df_group.specs.{declared.reach.Reach.{Reach}, declared.groups.Tail.{Tail}}
-use Rattle.df_replies.specs.Shown.{ShowsReplies, ShowsReply}
-use Rattle.df_recovery.specs.Known.{IsBaseOf}
 
 -- ---- an image that shows what the tables say
 
@@ -86,13 +82,16 @@ any_is layout f ss = record { slots_are = refl; clients_are = refl; content_is =
 
 -- ---- the bounds
 
-mark_below : (clients op parent mark m : ℕ) (ss : List Units.Session) (ps : List Message) → Chain clients op parent mark ss ps → m < op → last_mark m ps < op + length ps
+mark_below : (clients op parent mark m : ℕ) (ss : List Units.Session) (ps : List Message)
+    → Chain clients op parent mark ss ps → m < op → last_mark m ps < op + length ps
 mark_below clients op parent mark m ss [] chain small = omega (arith, small)
 mark_below clients op parent mark m ss (p ∷ ps) chain small = omega (arith, mark_below clients (op + 1) p.header.checksum p.header.mark p.header.mark (noted p.header ss) ps chain.1 (omega (arith, chain.0.mark_below)))
 
-tail_near : (clients op parent top n : ℕ) (ss : List Units.Session) (ps : List Message) → Chain clients (op + 1) parent 0 ss ps → top ≡ op + length ps → last_mark 0 ps ≤ n → op ≤ n + 8 → top ≤ n + 8
+tail_near : (clients op parent top n : ℕ) (ss : List Units.Session) (ps : List Message)
+    → Chain clients (op + 1) parent 0 ss ps → top ≡ op + length ps → last_mark 0 ps ≤ n → op ≤ n + 8 → top ≤ n + 8
 tail_near clients op parent top n ss [] chain is mark base = omega (arith, is, base)
-tail_near clients op parent top n ss (p ∷ ps) chain is mark base = omega (arith, is, mark, chain_near clients (op + 1) parent 0 0 ss (p ∷ ps) chain (omega arith))
+tail_near clients op parent top n ss (p ∷ ps) chain is mark base =
+    omega (arith, is, mark, chain_near clients (op + 1) parent 0 0 ss (p ∷ ps) chain (omega arith))
 
 -- ---- the sessions after the tail
 
@@ -101,10 +100,11 @@ may_ask_some room h [] may = omega (arith, may.0)
 may_ask_some room h (s ∷ ss) (inl same) = omega (arith, same.1)
 may_ask_some room h (s ∷ ss) (inr other) = may_ask_some other.1 h ss other.3
 
-asked_chain : (clients op parent mark : ℕ) (ss : List Units.Session) (ps : List Message) → Chain clients op parent mark ss ps → AreAsked ss → AreAsked (sessions_after ss ps)
+asked_chain : (clients op parent mark : ℕ) (ss : List Units.Session) (ps : List Message)
+    → Chain clients op parent mark ss ps → AreAsked ss → AreAsked (sessions_after ss ps)
 asked_chain clients op parent mark ss [] chain asked = asked
-asked_chain clients op parent mark ss (p ∷ ps) chain asked =
-    asked_chain clients (op + 1) p.header.checksum p.header.mark (noted p.header ss) ps chain.1 (asked_noted p.header ss asked (may_ask_some clients p.header ss chain.0.asks))
+asked_chain clients op parent mark ss (p ∷ ps) chain asked = asked_chain clients (op + 1) p.header.checksum
+    p.header.mark (noted p.header ss) ps chain.1 (asked_noted p.header ss asked (may_ask_some clients p.header ss chain.0.asks))
 
 -- a usable superblock's boot that isn't the greatest can be raised
 pub boot_unspent : (f : SuperFields) → IsSuper f → f.boot ≢ 2 ^ 62 → f.boot < 2 ^ 62
@@ -113,12 +113,14 @@ boot_unspent f is other = elim is.version [
   | inr second ↦ elim (cases_lt f.boot (2 ^ 62)) [ inl less ↦ less | inr from ↦ absurd (other (omega (arith, second.boot, from))) ]
 ]
 
-module _ (sh : Shape) (image : Units.Units) (f : SuperFields) (ss after : List Session) (reach : Reach) (n : ℕ) (rules : IsSuper f) (found : IsReached sh image (any_base f ss) reach after) (replies : IsReplies image (any_base f ss).content found.tail n) where
+module _ (sh : Shape) (image : Units.Units) (f : SuperFields) (ss after : List Session) (reach : Reach) (n : ℕ) (rules : IsSuper f)
+    (found : IsReached sh image (any_base f ss) reach after) (replies : IsReplies image (any_base f ss).content found.tail n) where
   abbrev end : Tail
   end = reach.tail
 
   pub few_wait : end.op ≤ n + 8
-  few_wait = tail_near sh.layout.clients f.op (any_base f ss).content.op_checksum end.op n (sessions_of ss) found.tail found.is.chain found.ends.op replies.mark (omega (arith, rules.head.0, rules.replies.1, replies.superblock))
+  few_wait = tail_near sh.layout.clients f.op (any_base f ss).content.op_checksum end.op n (sessions_of ss)
+      found.tail found.is.chain found.ends.op replies.mark (omega (arith, rules.head.0, rules.replies.1, replies.superblock))
 
   pub not_above : (own : Counters) → CountsReplies f.boot image own → IsComplete own f.head end.op → n ≤ end.op
   not_above own counts kept = elim replies.reached [
@@ -132,10 +134,10 @@ module _ (sh : Shape) (image : Units.Units) (f : SuperFields) (ss after : List S
   fewer tracks = record { below = tracks.below; apart = tracks.apart; pending = λ o above to. tracks.pending o (omega (arith, replies.superblock, above)) to }
 
   pub tracks_on : Tracks f.replies f.op (sessions_of ss) → Tracks n end.op (sessions_of after)
-  tracks_on tracks =
-      subst (λ (l : List Units.Session). Tracks n end.op l) (sym found.ends.sessions_are)
-      (rw (sym found.ends.op) at
-      (tracks_chain sh.layout.clients f.op (any_base f ss).content.op_checksum 0 n n (sessions_of ss) found.tail (fewer tracks) found.is.chain (omega arith) replies.mark))
+  tracks_on tracks = subst (λ (l : List Units.Session). Tracks n end.op l) (sym found.ends.sessions_are) (rw (sym found.ends.op) at
+      (tracks_chain sh.layout.clients
+      f.op (any_base f ss).content.op_checksum 0 n n (sessions_of ss) found.tail (fewer tracks) found.is.chain (omega arith) replies.mark))
 
   pub asked_on : AreAsked (sessions_of ss) → AreAsked (sessions_of after)
-  asked_on asked = subst AreAsked (sym found.ends.sessions_are) (asked_chain sh.layout.clients (f.op + 1) (any_base f ss).content.op_checksum 0 (sessions_of ss) found.tail found.is.chain asked)
+  asked_on asked = subst AreAsked (sym found.ends.sessions_are)
+      (asked_chain sh.layout.clients (f.op + 1) (any_base f ss).content.op_checksum 0 (sessions_of ss) found.tail found.is.chain asked)

@@ -1,9 +1,6 @@
 -- What the crates above cite: that an image has one answer, and what was found is the image's in the words of the theory.
-pub use Rattle.df_recovery.proofs.Asked.{as_none, super_as}
-pub use Rattle.df_recovery.proofs.Seconds.{one_super}
-pub use Rattle.df_recovery.proofs.Written.{super_is_written_as, written_as}
-pub use Rattle.df_recovery.proofs.FilesRead.{file_is_read}
-pub use Rattle.df_recovery.proofs.OpenAnswers.{head_found, kept_is_answer, refused_is_answer}
+pub use Rattle.df_recovery.proofs.{Asked.{as_none, super_as}, Seconds.{one_super}, Written.{super_is_written_as, written_as}}
+pub use Rattle.df_recovery.proofs.{FilesRead.{file_is_read}, OpenAnswers.{head_found, kept_is_answer, refused_is_answer}}
 pub use Rattle.df_recovery.proofs.OneAnswer.{one_super_as, super_or_refusal_as}
 -- ---- what was found makes sense
 pub use Rattle.df_recovery.proofs.FoundStates.{found_awaits, found_ends, found_staging}

@@ -1,7 +1,5 @@
 -- The laws of an image's answer where version 2 is asked for, as an open does.
-use Rattle.std.proofs.Common.{◌≡◌}
-use Rattle.df_base.specs.Image.{Image}
-use Rattle.df_format.specs.declared.superblock.SuperFields.{SuperFields}
+use Rattle.{std.proofs.Common.{◌≡◌}, df_base.specs.Image.{Image}, df_format.specs.declared.superblock.SuperFields.{SuperFields}}
 use Rattle.df_recovery.{specs.Opening.{HasSuper}, proofs.OneAnswer.{one_super_as}}
 
 pub one_super : (image : Image) (f g : SuperFields) → HasSuper image f → HasSuper image g → f ≡ g

@@ -1,15 +1,13 @@
 -- The choice of an image answers for it, once its fields are tested.
-use Rattle.std.{specs.Prelude.{Ok, Err}, proofs.Common.{◌≡◌, ◌∙◌, ℕ, Option, Some, None, ap, sym}}
-use Rattle.df_base.specs.Image.{Image}
-use Rattle.df_disk.specs.Told.{Told}
-use Rattle.df_layout.specs.declared.fields.Field.{Field}
+use Rattle.{std.{specs.Prelude.{Ok, Err}, proofs.Common.{◌≡◌, ◌∙◌, ℕ, Option, Some, None, ap, sym}}, df_base.specs.Image.{Image}}
+use Rattle.{df_disk.specs.Told.{Told}, df_layout.specs.declared.fields.Field.{Field}, df_quorum.specs.declared.choice.Chosen.{Chosen}}
 use Rattle.df_format.specs.declared.superblock.{SuperFault.{SuperFault}, SuperFault.TheVariants.{Version as OtherVersion, BadField as BrokenField}}
-use Rattle.df_quorum.specs.declared.choice.Chosen.{Chosen}
 use Rattle.df_recovery.specs.{Opening.{HasFaultAs, RefusesAs, fault_as}, Found.{IsChoiceOf, IsFoundAs, AnswersAs, TellsChoice, TellsFoundAs}, declared.superblock.Found.{Found}}
 use Rattle.df_model.specs.{declared.errors.OpenError.{OpenError}, declared.errors.OpenError.TheVariants.{NotFormatted, NoQuorum, Version, BadField, LayoutDiffers, Damaged, DiskFault, BootSpent}}
 
 -- a refusal is an answer
-refusal_answers : {T : Type 0} (version : ℕ) (P : T → Type 0) (image : Image) (e : OpenError) → RefusesAs version image e → AnswersAs version P image (Err e)
+refusal_answers : {T : Type 0} (version : ℕ) (P : T → Type 0) (image : Image) (e : OpenError)
+    → RefusesAs version image e → AnswersAs version P image (Err e)
 refusal_answers version P image NotFormatted refuses = refuses
 refusal_answers version P image (NoQuorum classes) refuses = refuses
 refusal_answers version P image (Version found) refuses = refuses
@@ -30,8 +28,7 @@ broken_choice : (version : ℕ) (image : Image) (choice : Chosen) (fault : Super
 broken_choice version image choice fault is of = record {
   content = of.content;
   chosen = of.is;
-  broken = ap (fault_as version)
-      (sym of.fields) ∙ is;
+  broken = ap (fault_as version) (sym of.fields) ∙ is;
 }
 
 pub tells_version : (version found : ℕ) (told : Option Told) (choice : Chosen) → fault_as version choice.content ≡ Some

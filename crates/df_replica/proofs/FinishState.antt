@@ -1,33 +1,31 @@
 -- What the superblock says that ends a checkpoint obeys the rules, and the state after it makes sense.
 use Rattle.std.proofs.{Common.{◌≡◌, ℕ, ◌+◌, ◌*◌, ◌/◌, ◌≤◌, List, [], ◌∷◌, Some, None, refl, sym, ◌∙◌, ap, subst, arith}, lemmas.Option.{same_Some}}
-use Rattle.df_base.specs.Fields.{spelled}
+use Rattle.{df_base.specs.Fields.{spelled}, df_sessions.specs.Table.{IsSessionTable}, df_theory.specs.Trailer.{greatest_trailer}}
 use Rattle.df_format.{proofs.Laws.{faults}, specs.{Spelling.{IsCheck}, SuperRules.{IsSuper, IsUsable, fault_of}, declared.superblock.SuperFields.{SuperFields}}}
-use Rattle.df_sessions.specs.Table.{IsSessionTable}
-use Rattle.df_theory.specs.Trailer.{greatest_trailer}
-use Rattle.df_model.specs.Blocks.{Blocks}
-use Rattle.df_units.{specs.Meaning.{layout_of, number_of}, proofs.Laws.{whole_check}}
+use Rattle.{df_model.specs.Blocks.{Blocks}, df_units.{specs.Meaning.{layout_of, number_of}, proofs.Laws.{whole_check}}}
 use Rattle.df_grid.specs.{Table.{last_trailer_block}, Writes.{first_address, first_sum}}
 use Rattle.df_opening.{specs.Below.{IsLevel, IsRunningCheckpoint, IsState, MayRecord, RunningState, State}, proofs.Laws.{recorded_is_super, second_as, staging_on}}
 use Rattle.df_replica.specs.Stepping.{captured_fields, finished, next_fields}
 
 -- the last trailer block is the first of those that are listed
-first_pair : (written : List (ℕ × ℕ)) (left : List ℕ) (address sum : ℕ) → left ≡ [] → Some (address, sum) ≡ last_trailer_block left written → (first_address written ≡ address) × (first_sum written ≡ sum)
+first_pair : (written : List (ℕ × ℕ)) (left : List ℕ) (address sum : ℕ)
+    → left ≡ [] → Some (address, sum) ≡ last_trailer_block left written → (first_address written ≡ address) × (first_sum written ≡ sum)
 first_pair written (a ∷ more) address sum done is = absurd (cc)
 first_pair [] [] address sum done is = absurd (cc)
-first_pair (x ∷ xs) [] address sum done is =
-    let same : (address, sum) ≡ x = same_Some _ _ is in
+first_pair (x ∷ xs) [] address sum done is = let same : (address, sum) ≡ x = same_Some _ _ is in
     (ap (λ (y : ℕ × ℕ). y.0) (sym same), ap (λ (y : ℕ × ℕ). y.1) (sym same))
 
 -- by its own checksum
-pub last_is : (b : Blocks) (address : ℕ) (checksum : List ℕ) → b.left ≡ [] → Some (address, number_of checksum) ≡ last_trailer_block b.left b.written → IsCheck checksum
+pub last_is : (b : Blocks) (address : ℕ) (checksum : List ℕ)
+    → b.left ≡ [] → Some (address, number_of checksum) ≡ last_trailer_block b.left b.written → IsCheck checksum
     → (first_address b.written ≡ address) × (first_sum b.written ≡ number_of checksum) × (checksum ≡ spelled 16 (first_sum b.written))
-last_is b address checksum done is whole =
-    let pair = first_pair b.written b.left address (number_of checksum) done is in
+last_is b address checksum done is whole = let pair = first_pair b.written b.left address (number_of checksum) done is in
     (pair.0, pair.1, sym (whole_check checksum whole) ∙ ap (spelled 16) (sym pair.1))
 
 -- ---- what the superblock says
 
-module _ (s : State) (r : RunningState) (is : IsState s) (table : IsSessionTable s.table) (super : IsSuper s.fields) (runs : IsRunningCheckpoint s.file s.fields s.head s.blocks r) (level : IsLevel s.head s.head_checksum (Some r))
+module _ (s : State) (r : RunningState) (is : IsState s) (table : IsSessionTable s.table) (super : IsSuper s.fields)
+    (runs : IsRunningCheckpoint s.file s.fields s.head s.blocks r) (level : IsLevel s.head s.head_checksum (Some r))
     (some : 1 ≤ first_address s.blocks.written) (inside : first_address s.blocks.written ≤ s.file.layout.blocks) where
   abbrev f : SuperFields
   f = captured_fields s.fields r (first_address s.blocks.written) (spelled 16 (first_sum s.blocks.written))
@@ -60,7 +58,8 @@ module _ (s : State) (r : RunningState) (is : IsState s) (table : IsSessionTable
 
 -- ---- the state in which the checkpoint is the durable one
 
-pub finished_sense : (s : State) (r : RunningState) → IsState s → IsRunningCheckpoint s.file s.fields s.head s.blocks r → IsLevel s.head s.head_checksum (Some r) → IsUsable (next_fields s r) → IsState (finished s r)
+pub finished_sense : (s : State) (r : RunningState) → IsState s → IsRunningCheckpoint s.file s.fields s.head s.blocks r
+    → IsLevel s.head s.head_checksum (Some r) → IsUsable (next_fields s r) → IsState (finished s r)
 finished_sense s r is runs level usable = record {
   in_file = record {
     cluster = is.cluster;

@@ -1,12 +1,8 @@
 -- The prepares of a group: made one after the other, each in the room of its body.
 use Rattle.std.{proofs.Common.{◌≡◌, ℕ, suc, ◌+◌, ◌<◌, List, [], ◌∷◌, ◌++◌, length, drop, true, Some, refl, sym, ◌∙◌, ap, subst, arith, append_assoc}, specs.List.{slice_get}}
-use Rattle.df_base.specs.Log.{Event, Write}
-use Rattle.df_buffers.specs.Sounds.{Holding}
-use Rattle.df_format.specs.{Message.{Message, sectors_of}, Spelling.{IsCheck}}
-use Rattle.df_theory.specs.Units.{PreparePlace}
-use Rattle.df_units.specs.Bytes.{first_at}
-use Rattle.df_journal.{specs.Flush.{AreOwn, group_puts, held_prepares}, proofs.Laws.{length_of_units}}
-use Rattle.df_model.specs.Work.{Request}
+use Rattle.{df_base.specs.Log.{Event, Write}, df_buffers.specs.Sounds.{Holding}, df_theory.specs.Units.{PreparePlace}}
+use Rattle.{df_format.specs.{Message.{Message, sectors_of}, Spelling.{IsCheck}}, df_units.specs.Bytes.{first_at}}
+use Rattle.{df_journal.{specs.Flush.{AreOwn, group_puts, held_prepares}, proofs.Laws.{length_of_units}}, df_model.specs.Work.{Request}}
 use Rattle.df_opening.{specs.Below.{DataFile, IsState, State, first_request}, proofs.Laws.{boot_made}}
 use Rattle.df_replica.specs.{declared.flush.Group.{Group}, Appending.{unit_made}, Flushing.{AreHeld, AreMadeFor, MaySeal, flush_units, group_in, group_prepares, group_put_events, header_in}}
 
@@ -17,7 +13,8 @@ first_there [] some = absurd (omega (arith, some))
 first_there (r ∷ rs) some = refl
 
 pub units_first : (g : Group) (op : ℕ) (parent : List ℕ) (rs : List Request) → 0 < length rs
-    → group_prepares g op parent rs ≡ unit_made (header_in g op parent (first_request rs)) (first_request rs).body ∷ group_prepares g (op + 1) (unit_made (header_in g op parent (first_request rs)) (first_request rs).body).header.checksum (drop 1 rs)
+    → group_prepares g op parent rs ≡ unit_made (header_in g op parent (first_request rs)) (first_request rs).body
+    ∷ group_prepares g (op + 1) (unit_made (header_in g op parent (first_request rs)) (first_request rs).body).header.checksum (drop 1 rs)
 units_first g op parent [] some = absurd (omega (arith, some))
 units_first g op parent (r ∷ rs) some = refl
 
@@ -25,7 +22,8 @@ pub length_units : (g : Group) (op : ℕ) (parent : List ℕ) (rs : List Request
 length_units g op parent [] = refl
 length_units g op parent (r ∷ rs) = omega (arith, length_units g (op + 1) (unit_made (header_in g op parent r) r.body).header.checksum rs)
 
-each_later : {P : Request → Type 0} (rs : List Request) → ((i : ℕ) (r : Request) → slice_get rs i ≡ Some r → P r) → (i : ℕ) (r : Request) → slice_get (drop 1 rs) i ≡ Some r → P r
+each_later : {P : Request → Type 0} (rs : List Request)
+    → ((i : ℕ) (r : Request) → slice_get rs i ≡ Some r → P r) → (i : ℕ) (r : Request) → slice_get (drop 1 rs) i ≡ Some r → P r
 each_later [] all i r at = absurd (cc)
 each_later (x ∷ rs) all i r at = all (suc i) r at
 
@@ -34,7 +32,8 @@ length_later [] some = absurd (omega (arith, some))
 length_later (r ∷ rs) some = omega arith
 
 -- the rest may follow it
-pub seal_on : (g : Group) (op : ℕ) (parent check : List ℕ) (rs : List Request) → 0 < length rs → IsCheck check → MaySeal g op parent rs → MaySeal g (op + 1) check (drop 1 rs)
+pub seal_on : (g : Group) (op : ℕ) (parent check : List ℕ) (rs : List Request)
+    → 0 < length rs → IsCheck check → MaySeal g op parent rs → MaySeal g (op + 1) check (drop 1 rs)
 seal_on g op parent check rs some is may = record {
   next = record { group = may.next.group; from = omega (arith, may.next.from); parent_is = is; first = λ one. absurd (omega (arith, one, may.next.from, may.next.group.mark)) };
   to = omega (arith, may.to, length_later rs some);
@@ -46,17 +45,17 @@ units_pushed [] held = refl
 units_pushed (x ∷ helds) held = ap (λ (us : List Message). x.unit ∷ us) (units_pushed helds held)
 
 -- those that are made, with those that are to come, are the whole
-pub units_turn : (g : Group) (op : ℕ) (parent check : List ℕ) (rs : List Request) (helds : List Holding) (held : Holding) (all : List Message) → 0 < length rs → held.unit ≡ unit_made (header_in g op parent (first_request rs)) (first_request rs).body
-    → check ≡ (unit_made (header_in g op parent (first_request rs)) (first_request rs).body).header.checksum → held_prepares helds ++ group_prepares g op parent rs ≡ all → held_prepares (helds ++ held ∷ []) ++ group_prepares g (op + 1) check (drop 1 rs) ≡ all
+pub units_turn : (g : Group) (op : ℕ) (parent check : List ℕ) (rs : List Request) (helds : List Holding) (held : Holding)
+    (all : List Message) → 0 < length rs → held.unit ≡ unit_made (header_in g op parent (first_request rs)) (first_request rs).body
+    → check ≡ (unit_made (header_in g op parent (first_request rs)) (first_request rs).body).header.checksum → held_prepares helds
+    ++ group_prepares g op parent rs ≡ all → held_prepares (helds ++ held ∷ []) ++ group_prepares g (op + 1) check (drop 1 rs) ≡ all
 units_turn g op parent check rs helds held all some made sum before =
     let u = unit_made (header_in g op parent (first_request rs)) (first_request rs).body in
     let rest = group_prepares g (op + 1) u.header.checksum (drop 1 rs) in
     ap (λ (c : List ℕ). held_prepares (helds ++ held ∷ []) ++ group_prepares g (op + 1) c (drop 1 rs)) sum
-    ∙ ap (λ (us : List Message). us ++ rest) (units_pushed helds held)
-    ∙ append_assoc (held_prepares helds) (held.unit ∷ []) rest
+    ∙ ap (λ (us : List Message). us ++ rest) (units_pushed helds held) ∙ append_assoc (held_prepares helds) (held.unit ∷ []) rest
     ∙ ap (λ (x : Message). held_prepares helds ++ x ∷ rest) made
-    ∙ ap (λ (us : List Message). held_prepares helds ++ us) (sym (units_first g op parent rs some))
-    ∙ before
+    ∙ ap (λ (us : List Message). held_prepares helds ++ us) (sym (units_first g op parent rs some)) ∙ before
 
 -- all that is staged may be made a group
 pub may_seal : (s : State) → IsState s → s.live ≡ true → MaySeal (group_in s) (s.head + 1) s.head_checksum s.staged
@@ -81,20 +80,23 @@ may_seal s is live = record {
 -- ---- their device calls
 
 -- rooms that hold whole sectors are put as their prepares are
-pub puts_same : (file : DataFile) (helds : List Holding) → AreMadeFor file helds → group_puts file.layout helds ≡ group_put_events file.layout (held_prepares helds)
+pub puts_same : (file : DataFile) (helds : List Holding)
+    → AreMadeFor file helds → group_puts file.layout helds ≡ group_put_events file.layout (held_prepares helds)
 puts_same file [] made = refl
-puts_same file (held ∷ helds) made =
-    let at = first_at file.layout (PreparePlace held.unit.header.slot) in
+puts_same file (held ∷ helds) made = let at = first_at file.layout (PreparePlace held.unit.header.slot) in
     ap (λ (bytes : List ℕ). Write at bytes ∷ group_puts file.layout helds) (made 0 held refl).sectors
     ∙ ap (λ (es : List Event). Write at (sectors_of held.unit) ∷ es) (puts_same file helds (λ i x there. made (suc i) x there))
 
 -- ---- the rooms that hold them
 
-pub count_held : (g : Group) (op : ℕ) (parent : List ℕ) (rs : List Request) (helds : List Holding) → held_prepares helds ≡ group_prepares g op parent rs → length helds ≡ length rs
-count_held g op parent rs helds same = omega (arith, length_of_units helds, length_units g op parent rs, ap (λ (us : List Message). length us) same)
+pub count_held : (g : Group) (op : ℕ) (parent : List ℕ) (rs : List Request) (helds : List Holding)
+    → held_prepares helds ≡ group_prepares g op parent rs → length helds ≡ length rs
+count_held g op parent rs helds same =
+    omega (arith, length_of_units helds, length_units g op parent rs, ap (λ (us : List Message). length us) same)
 
 -- what was made of all that is staged
-module _ (s : State) (g : Group) (sealed lent : List Holding) (of : g ≡ group_in s) (same : lent ≡ sealed) (units : held_prepares sealed ≡ group_prepares g g.first s.head_checksum s.staged) where
+module _ (s : State) (g : Group) (sealed lent : List Holding)
+    (of : g ≡ group_in s) (same : lent ≡ sealed) (units : held_prepares sealed ≡ group_prepares g g.first s.head_checksum s.staged) where
   pub lent_units : held_prepares lent ≡ flush_units s
   lent_units = ap held_prepares same ∙ units ∙ ap (λ (x : Group). group_prepares x x.first s.head_checksum s.staged) of
 

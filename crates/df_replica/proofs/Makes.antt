@@ -27,17 +27,18 @@ OfPrepares sh P (p ∷ ps) = P (PreparePlace (p.header.op % slots sh)) (PrepareU
 -- a fact of the prepares, the reply or the trailer block that the command makes, with its place
 abbrev pub OfMade : Shape → (Parts → List ℕ) → (Place → AnyUnit → Type 0) → Work → Given → Command → Type 0
 OfMade sh spell P w given (Append client request body) =
-    let p = prepare_of (memory_of sh spell w) (supplied_sum given) client request body in
-    Unless (first_refusal (append_refusals (memory_of sh spell w) client request body)) (P (PreparePlace (p.header.op % slots sh)) (PrepareUnit p))
-OfMade sh spell P w given Flush = Unless (first_refusal (flush_refusals (memory_of sh spell w))) (OfPrepares sh P (group_of (memory_of sh spell w) (supplied_sums given)))
-OfMade sh spell P w given (Reply op body) =
-    let m = memory_of sh spell w in
+    let p = prepare_of (memory_of sh spell w) (supplied_sum given) client request body in Unless
+    (first_refusal (append_refusals (memory_of sh spell w) client request body)) (P (PreparePlace (p.header.op % slots sh)) (PrepareUnit p))
+OfMade sh spell P w given Flush =
+    Unless (first_refusal (flush_refusals (memory_of sh spell w))) (OfPrepares sh P (group_of (memory_of sh spell w) (supplied_sums given)))
+OfMade sh spell P w given (Reply op body) = let m = memory_of sh spell w in
     Unless (first_refusal (reply_refusals m op body)) (P (ReplyPlace (place_of_reply m)) (ReplyUnit (reply_of m (supplied_sum given) body)))
 OfMade sh spell P w given Advance = OfStep sh spell P w (supplied_sum given) w.running
 OfMade sh spell P w given command = Unit {0}
 
 -- a weaker fact of it
-module _ (sh : Shape) (spell : Parts → List ℕ) (P Q : Place → AnyUnit → Type 0) (weaker : (place : Place) (x : AnyUnit) → P place x → Q place x) (w : Work) where
+module _ (sh : Shape) (spell : Parts → List ℕ)
+    (P Q : Place → AnyUnit → Type 0) (weaker : (place : Place) (x : AnyUnit) → P place x → Q place x) (w : Work) where
   unless_weaker : {E : Type 0} (o : Option E) (place : Place) (x : AnyUnit) → Unless o (P place x) → Unless o (Q place x)
   unless_weaker (Some e) place x is = tt
   unless_weaker None place x is = weaker place x is
@@ -59,8 +60,10 @@ module _ (sh : Shape) (spell : Parts → List ℕ) (P Q : Place → AnyUnit → 
   step_weaker sum (Some r) is = left_weaker sum r r.left is
 
   pub made_weaker : (given : Given) (command : Command) → OfMade sh spell P w given command → OfMade sh spell Q w given command
-  made_weaker given (Append client request body) is = unless_weaker (first_refusal (append_refusals (memory_of sh spell w) client request body)) _ _ is
-  made_weaker given Flush is = group_weaker (first_refusal (flush_refusals (memory_of sh spell w))) (group_of (memory_of sh spell w) (supplied_sums given)) is
+  made_weaker given (Append client request body) is =
+      unless_weaker (first_refusal (append_refusals (memory_of sh spell w) client request body)) _ _ is
+  made_weaker given Flush is =
+      group_weaker (first_refusal (flush_refusals (memory_of sh spell w))) (group_of (memory_of sh spell w) (supplied_sums given)) is
   made_weaker given (Reply op body) is = unless_weaker (first_refusal (reply_refusals (memory_of sh spell w) op body)) _ _ is
   made_weaker given Advance is = step_weaker (supplied_sum given) w.running is
   made_weaker given command is = tt
@@ -86,7 +89,8 @@ module _ (sh : Shape) (spell : Parts → List ℕ) (P : Place → AnyUnit → Ty
   needs_more ps made (HeaderPlace s) x need = absurd need
   needs_more ps made (PreparePlace s) x (q, at, slot, is) = elim (in_either q w.view.tail ps at) [
     | inl old ↦ has.needs (PreparePlace s) x (q, old, slot, is)
-    | inr new ↦ subst (λ (k : ℕ). P (PreparePlace k) x) (sym slot) (subst (λ (y : AnyUnit). P (PreparePlace (q.header.op % slots sh)) y) (sym is) (own_of ps q new made))
+    | inr new ↦ subst (λ (k : ℕ). P (PreparePlace k) x)
+        (sym slot) (subst (λ (y : AnyUnit). P (PreparePlace (q.header.op % slots sh)) y) (sym is) (own_of ps q new made))
   ]
   needs_more ps made (ReplyPlace k) x (r, at, is) = has.needs (ReplyPlace k) x (r, kept_some _ (head w.view) (w.view.stored k) r at, is)
   needs_more ps made (BlockPlace a) x need = has.needs (BlockPlace a) x need
@@ -97,9 +101,10 @@ module _ (sh : Shape) (spell : Parts → List ℕ) (P : Place → AnyUnit → Ty
   replied_has : (place : ℕ) (r : Message) → P (ReplyPlace place) (ReplyUnit r) → HasEach sh P (with_reply w place r)
   replied_has k r made = record { needs = needs; trailer = has.trailer }
     where
-      stored : (j : ℕ) (x : AnyUnit) (q : Message) → x ≡ ReplyUnit q → (b : Bool) → (j == k) ≡ b → (if b then Some r else w.view.stored j) ≡ Some q → P (ReplyPlace j) x
-      stored j x q is true same at =
-          subst (λ (n : ℕ). P (ReplyPlace n) x) (sym (eqb-true j k same)) (subst (λ (y : AnyUnit). P (ReplyPlace k) y) (ap ReplyUnit (same_Some _ _ at) ∙ sym is) made)
+      stored : (j : ℕ) (x : AnyUnit) (q : Message)
+          → x ≡ ReplyUnit q → (b : Bool) → (j == k) ≡ b → (if b then Some r else w.view.stored j) ≡ Some q → P (ReplyPlace j) x
+      stored j x q is true same at = subst (λ (n : ℕ). P (ReplyPlace n) x)
+          (sym (eqb-true j k same)) (subst (λ (y : AnyUnit). P (ReplyPlace k) y) (ap ReplyUnit (same_Some _ _ at) ∙ sym is) made)
       stored j x q is false same at = has.needs (ReplyPlace j) x (q, at, is)
 
       needs : (place : Place) (x : AnyUnit) → Needs sh (replied w.view k r) place x → P place x
@@ -114,17 +119,20 @@ module _ (sh : Shape) (spell : Parts → List ℕ) (P : Place → AnyUnit → Ty
   begun_has : (root : List ℕ) → HasEach sh P (with_running w (Some (begun sh spell w root)))
   begun_has root = record {
     needs = has.needs;
-    trailer = λ r is a b at. absurd (let none : InChain a b [] = subst (λ (q : Running). InChain a b q.written) (sym (same_Some _ _ is)) at in none);
+    trailer = λ r is a b at.
+        absurd (let none : InChain a b [] = subst (λ (q : Running). InChain a b q.written) (sym (same_Some _ _ is)) at in none);
   }
 
-  wrote_has : (r : Running) → w.running ≡ Some r → (a : ℕ) (b : Block) (more : List ℕ) → P (BlockPlace a) (BlockUnit b) → HasEach sh P (with_trailer_block w r a b more)
+  wrote_has : (r : Running) → w.running ≡ Some r
+      → (a : ℕ) (b : Block) (more : List ℕ) → P (BlockPlace a) (BlockUnit b) → HasEach sh P (with_trailer_block w r a b more)
   wrote_has r running a b more made = record {
     needs = has.needs;
     trailer = λ q is c d at. chain c d (subst (λ (k : Running). InChain c d k.written) (sym (same_Some _ _ is)) at);
   }
     where
       chain : (c : ℕ) (d : Block) → InChain c d ((a, b) ∷ r.written) → P (BlockPlace c) (BlockUnit d)
-      chain c d (inl here) = subst (λ (n : ℕ). P (BlockPlace n) (BlockUnit d)) (sym here.0) (subst (λ (x : Block). P (BlockPlace a) (BlockUnit x)) (sym here.1) made)
+      chain c d (inl here) = subst (λ (n : ℕ).
+          P (BlockPlace n) (BlockUnit d)) (sym here.0) (subst (λ (x : Block). P (BlockPlace a) (BlockUnit x)) (sym here.1) made)
       chain c d (inr older) = has.trailer r running c d older
 
   -- the running trailer is the durable one, and a front leaves the tail
@@ -149,16 +157,23 @@ module _ (sh : Shape) (spell : Parts → List ℕ) (P : Place → AnyUnit → Ty
   made_now (Some e) Q none made = absurd (cc)
   made_now None Q none made = made
 
-  written_now : (sum : ℕ) (r : Running) (a : ℕ) (more : List ℕ) → w.running ≡ Some r → r.left ≡ a ∷ more → OfStep sh spell P w sum w.running → P (BlockPlace a) (BlockUnit (next_trailer sh spell w r sum))
-  written_now sum r a more running left made = subst (λ (l : List ℕ). OfLeft sh spell P w sum r l) left (subst (λ (o : Option Running). OfStep sh spell P w sum o) running made)
+  written_now : (sum : ℕ) (r : Running) (a : ℕ) (more : List ℕ) → w.running ≡ Some r
+      → r.left ≡ a ∷ more → OfStep sh spell P w sum w.running → P (BlockPlace a) (BlockUnit (next_trailer sh spell w r sum))
+  written_now sum r a more running left made =
+      subst (λ (l : List ℕ). OfLeft sh spell P w sum r l) left (subst (λ (o : Option Running). OfStep sh spell P w sum o) running made)
 
-  changed_has : (given : Given) (command : Command) (u : Work) → Change sh spell w given command u → OfMade sh spell P w given command → HasEach sh P u
+  changed_has : (given : Given) (command : Command) (u : Work)
+      → Change sh spell w given command u → OfMade sh spell P w given command → HasEach sh P u
   changed_has given command u (Stays _ idle) made = has
-  changed_has given command u (Appends _ ps (One client request body none staged)) made = flushed_has ps (made_now (first_refusal (append_refusals (memory_of sh spell w) client request body)) _ none made, tt)
-  changed_has given command u (Appends _ ps (Staged none)) made = flushed_has ps (made_now (first_refusal (flush_refusals (memory_of sh spell w))) _ none made)
-  changed_has given command u (Replies op body none) made = replied_has (place_of_reply (memory_of sh spell w)) (reply_of (memory_of sh spell w) (supplied_sum given) body) (made_now (first_refusal (reply_refusals (memory_of sh spell w) op body)) _ none made)
+  changed_has given command u (Appends _ ps (One client request body none staged)) made =
+      flushed_has ps (made_now (first_refusal (append_refusals (memory_of sh spell w) client request body)) _ none made, tt)
+  changed_has given command u (Appends _ ps (Staged none)) made =
+      flushed_has ps (made_now (first_refusal (flush_refusals (memory_of sh spell w))) _ none made)
+  changed_has given command u (Replies op body none) made = replied_has (place_of_reply (memory_of sh spell w)) (reply_of (memory_of
+      sh spell w) (supplied_sum given) body) (made_now (first_refusal (reply_refusals (memory_of sh spell w) op body)) _ none made)
   changed_has given command u (Begins root none) made = begun_has root
-  changed_has given command u (Writes r a more running left) made = wrote_has r running a (next_trailer sh spell w r (supplied_sum given)) more (written_now (supplied_sum given) r a more running left made)
+  changed_has given command u (Writes r a more running left) made = wrote_has
+      r running a (next_trailer sh spell w r (supplied_sum given)) more (written_now (supplied_sum given) r a more running left made)
   changed_has given command u (Ends r running left) made = finished_has r running (supplied_sum given)
   changed_has given command u (Checks x more list) made = checked_has x.0 (supplied_verdict given)
   changed_has given command u case made = record { needs = has.needs; trailer = has.trailer }

@@ -1,11 +1,9 @@
 -- A whole tour is the machine's, and what is kept of the file goes on after it: the view, the blocks and the log are the same.
-use Rattle.std.proofs.Common.{◌≡◌, ◌∙◌, ℕ, ◌++◌, List, length, Option, Some, None, refl, sym, ap, subst}
-use Rattle.df_disk.specs.Told.{Told}
-use Rattle.df_layout.specs.declared.damage.Finding.{Finding}
+use Rattle.{std.proofs.Common.{◌≡◌, ◌∙◌, ℕ, ◌++◌, List, length, Option, Some, None, refl, sym, ap, subst}, df_disk.specs.Told.{Told}}
+use Rattle.{df_layout.specs.declared.damage.Finding.{Finding}, df_grid.specs.Grid.{GridState}}
 use Rattle.df_theory.specs.{Device.{units_log}, Shape.{Shape}, UnitLog.{UnitLog}, Units.{Parts}}
 use Rattle.df_model.{specs.{After.{newest}, Laws.{IsKeptBy}, Memory.{referenced_of}, Reading.{IsTour}, Sense.{IsBacked, IsWork}, Work.{Work, first_tour}}, proofs.Laws.{tour_keeps, tour_law, newest_few}}
 use Rattle.df_grid.specs.Grid as grid
-use Rattle.df_grid.specs.Grid.{GridState}
 use Rattle.df_opening.specs.Below.{Represents, State, memory, shape, spelling}
 use Rattle.df_replica.specs.{Answering.{ServesTour}, Reading.{shown_of}, Scrubbing.{TellsTour, at_start, toured, work_toured}, Serving.{Firm, Grade, Keeps, KeptFor, Whole, format}, WrittenFor.{WritesOn}}
 
@@ -33,7 +31,8 @@ module _ (w : Work) (list : List Finding) where
 stands_behind : (s : State) (w : Work) (list : List Finding) → Represents s w → Represents (toured s list) (work_toured w list)
 stands_behind s w list rep = λ i. record (rep i) { tour = first_tour; findings = newest ((rep i).findings ++ list) }
 
-keeps_behind : (s : State) (told : Option Told) (list : List Finding) (g : Grade) (w : Work) → Keeps g s w told → Keeps g (toured s list) (work_toured w list) told
+keeps_behind : (s : State) (told : Option Told) (list : List Finding) (g : Grade) (w : Work)
+    → Keeps g s w told → Keeps g (toured s list) (work_toured w list) told
 keeps_behind s None list g w k = (sense_behind w list (shape s.file) (spelling s.file) k.0, stands_behind s w list k.1)
 keeps_behind s (Some t) list g w k = record {
   log_is = k.log_is;
@@ -56,9 +55,11 @@ tells s (Some t) = λ codec w work rep.
     (tour_law (shape s.file) codec (shown_of s.file t.shown) (at_start w) refl work.few)
 
 pub tour_serves : (s : State) (told : Option Told) (list : List Finding) → ServesTour s told list
-tour_serves s told list = record { machine = tells s told; keeps = λ g w base k. keeps_behind s base list g w k; written = written_behind s told list }
+tour_serves s told list =
+    record { machine = tells s told; keeps = λ g w base k. keeps_behind s base list g w k; written = written_behind s told list }
 
 -- ---- how many there are
 
-pub counted : (s : State) (g : GridState) (n : ℕ) → n ≡ length (grid.referenced_of g) → g.layout ≡ s.file.layout → g.blocks ≡ s.blocks → n ≡ length (referenced_of (memory s))
+pub counted : (s : State) (g : GridState) (n : ℕ)
+    → n ≡ length (grid.referenced_of g) → g.layout ≡ s.file.layout → g.blocks ≡ s.blocks → n ≡ length (referenced_of (memory s))
 counted s g n is layout blocks = is ∙ (λ i. length (grid.referenced_of (record g { layout = layout i; blocks = blocks i })))

@@ -1,6 +1,5 @@
 -- A state in which no call may follow makes sense as before.
-use Rattle.std.proofs.Common.{◌≡◌, Bool, true, false, sym, ◌∙◌}
-use Rattle.df_opening.specs.Below.{IsState, State}
+use Rattle.{std.proofs.Common.{◌≡◌, Bool, true, false, sym, ◌∙◌}, df_opening.specs.Below.{IsState, State}}
 
 pub stopped_sense : (s : State) (live : Bool) → live ≡ false → IsState s → IsState (record s { live = live })
 stopped_sense s live dead is = record {

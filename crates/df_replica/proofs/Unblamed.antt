@@ -1,8 +1,7 @@
 -- No refusal blames the disk: no test of the calls' refusals answers a fault.
 use Rattle.std.{proofs.{Common.{◌≡◌, ℕ, true, false, Bool, List, [], ◌∷◌, Option, Some, None, refl, sym, ap, subst}, lemmas.Option.{same_Some}}, specs.Prelude.{if◌then◌else◌, Result, Err}}
-use Rattle.df_base.specs.Causes.{Blamed, IsBlamed}
+use Rattle.{df_base.specs.Causes.{Blamed, IsBlamed}, df_opening.specs.Below.{State}}
 use Rattle.df_model.specs.{Commands.{Answer}, Faults.{is_append_fault, is_block_fault, is_flush_fault, is_lookup_fault, is_prepare_fault, is_reply_fault}, Memory.{Memory}, Refusals.{append_refusals, block_refusals, first_refusal, flush_refusals, lookup_refusals, prepare_refusals, reply_refusals}, declared.errors.AppendError.{AppendError}, declared.errors.BlockError.{BlockError}, declared.errors.FlushError.{FlushError}, declared.errors.ReplyError.{ReplyError}, declared.reading.LookupError.{LookupError}, declared.reading.PrepareError.{PrepareError}}
-use Rattle.df_opening.specs.Below.{State}
 use Rattle.df_replica.specs.{Answering.{answer_of}, Stopping.{left_by, stopped}}
 
 -- none of these tests answers a fault
@@ -11,7 +10,8 @@ AreUnblamed is_fault [] = Unit {0}
 AreUnblamed is_fault (t ∷ ts) = (is_fault t.1 ≡ false) × AreUnblamed is_fault ts
 
 module _ {E : Type 0} (is_fault : E → Bool) (e : E) where
-  unblamed_at : (b : Bool) (x : E) (o : Option E) → is_fault x ≡ false → (if b then Some x else o) ≡ Some e → (o ≡ Some e → is_fault e ≡ false) → is_fault e ≡ false
+  unblamed_at : (b : Bool) (x : E) (o : Option E)
+      → is_fault x ≡ false → (if b then Some x else o) ≡ Some e → (o ≡ Some e → is_fault e ≡ false) → is_fault e ≡ false
   unblamed_at true x o safe is behind = subst (λ (y : E). is_fault y ≡ false) (same_Some _ _ is) safe
   unblamed_at false x o safe is behind = behind is
 
@@ -30,16 +30,20 @@ module _ {E : Type 0} (is_fault : E → Bool) (e : E) where
     pub refused_blames : (T : Type 0) (count : ℕ) → IsBlamed {T = T} is_fault count count (Err e)
     refused_blames T count = subst (λ (b : Bool). Blamed b count count) (sym no) refl
 
-pub append_unblamed : (m : Memory) (client request : ℕ) (body : List ℕ) (e : AppendError) → first_refusal (append_refusals m client request body) ≡ Some e → is_append_fault e ≡ false
-append_unblamed m client request body e = first_unblamed is_append_fault e (append_refusals m client request body) (refl, (refl, (refl, (refl, (refl, (refl, (refl, (refl, (refl, (refl, tt))))))))))
+pub append_unblamed : (m : Memory) (client request : ℕ) (body : List ℕ) (e : AppendError)
+    → first_refusal (append_refusals m client request body) ≡ Some e → is_append_fault e ≡ false
+append_unblamed m client request body e = first_unblamed is_append_fault
+    e (append_refusals m client request body) (refl, (refl, (refl, (refl, (refl, (refl, (refl, (refl, (refl, (refl, tt))))))))))
 
 pub flush_unblamed : (m : Memory) (e : FlushError) → first_refusal (flush_refusals m) ≡ Some e → is_flush_fault e ≡ false
 flush_unblamed m e = first_unblamed is_flush_fault e (flush_refusals m) (refl, tt)
 
-pub reply_unblamed : (m : Memory) (op : ℕ) (body : List ℕ) (e : ReplyError) → first_refusal (reply_refusals m op body) ≡ Some e → is_reply_fault e ≡ false
+pub reply_unblamed : (m : Memory) (op : ℕ) (body : List ℕ) (e : ReplyError)
+    → first_refusal (reply_refusals m op body) ≡ Some e → is_reply_fault e ≡ false
 reply_unblamed m op body e = first_unblamed is_reply_fault e (reply_refusals m op body) (refl, (refl, (refl, tt)))
 
-pub block_unblamed : (m : Memory) (kind : ℕ) (body : List ℕ) (e : BlockError) → first_refusal (block_refusals m kind body) ≡ Some e → is_block_fault e ≡ false
+pub block_unblamed : (m : Memory) (kind : ℕ) (body : List ℕ) (e : BlockError)
+    → first_refusal (block_refusals m kind body) ≡ Some e → is_block_fault e ≡ false
 block_unblamed m kind body e = first_unblamed is_block_fault e (block_refusals m kind body) (refl, (refl, (refl, tt)))
 
 pub prepare_unblamed : (m : Memory) (op : ℕ) (e : PrepareError) → first_refusal (prepare_refusals m op) ≡ Some e → is_prepare_fault e ≡ false

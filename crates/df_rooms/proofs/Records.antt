@@ -19,10 +19,11 @@ number_at : (o : Option Session) → number_of (stored_check o) ≡ sum_or_zero 
 number_at None = no_number
 number_at (Some s) = number_of_reply s.reply
 
-numbers_at : (sessions : List Session) (ks : List ℕ) → map number_of (map (λ k. stored_check (slice_get sessions k)) ks) ≡ map (λ k. sum_or_zero (joined (slice_get (map stored_sum sessions) k))) ks
+numbers_at : (sessions : List Session) (ks : List ℕ) → map number_of (map (λ k. stored_check (slice_get sessions k)) ks)
+    ≡ map (λ k. sum_or_zero (joined (slice_get (map stored_sum sessions) k))) ks
 numbers_at sessions [] = refl
-numbers_at sessions (k ∷ ks) =
-    ap (λ (n : ℕ). n ∷ map number_of (map (λ i. stored_check (slice_get sessions i)) ks)) (number_at (slice_get sessions k) ∙ ap (λ (o : Option (Option ℕ)). sum_or_zero (joined o)) (sym (slice_get-map stored_sum sessions k)))
+numbers_at sessions (k ∷ ks) = ap (λ (n : ℕ). n ∷ map number_of (map (λ i. stored_check (slice_get sessions i)) ks))
+    (number_at (slice_get sessions k) ∙ ap (λ (o : Option (Option ℕ)). sum_or_zero (joined o)) (sym (slice_get-map stored_sum sessions k)))
     ∙ ap (λ (ns : List ℕ). sum_or_zero (joined (slice_get (map stored_sum sessions) k)) ∷ ns) (numbers_at sessions ks)
 
 pub names_are : (s : State) → map number_of (stored_checks s.table.sessions) ≡ named_sums (memory s)
@@ -30,7 +31,8 @@ unfolding stored_checks named_sums
 names_are s = numbers_at s.table.sessions (range_with_len 0 named_places)
 
 -- of version 2, what it says is what the machine records, with its own checksum
-pub recorded_content : (s : State) (f : SuperFields) → f.version ≡ 2 → content_of (content_with (recorded s f)) ≡ record (making.recorded (memory s) (content_of (content_with f))) { checksum = number_of (content_with (recorded s f)).checksum }
+pub recorded_content : (s : State) (f : SuperFields) → f.version ≡ 2 → content_of (content_with (recorded s f))
+    ≡ record (making.recorded (memory s) (content_of (content_with f))) { checksum = number_of (content_with (recorded s f)).checksum }
 recorded_content s f second = λ i. record (content_of (content_with f)) {
   checksum = number_of (content_with g).checksum;
   head = s.head;
@@ -49,7 +51,9 @@ recorded_content s f second = λ i. record (content_of (content_with f)) {
     names = by_second g (map number_of (stored_checks s.table.sessions)) [] second ∙ names_are s
 
     rest : rest_of g ≡ rest_of f
-    rest = ap (λ (l : List ℕ). l ++ offset_list f.first_nonzero) (by_second g [] (or_nothing (number_of s.head_checksum ∷ map number_of (stored_checks s.table.sessions))) second ∙ sym (by_second f [] (or_nothing (number_of f.head_checksum ∷ map number_of f.reply_checksums)) second))
+    rest = ap (λ (l : List ℕ). l ++ offset_list f.first_nonzero)
+        (by_second g [] (or_nothing (number_of s.head_checksum ∷ map number_of (stored_checks s.table.sessions))) second
+        ∙ sym (by_second f [] (or_nothing (number_of f.head_checksum ∷ map number_of f.reply_checksums)) second))
 
 -- ---- it can be used
 
@@ -59,8 +63,8 @@ unfolding stored_checks
 spare_names sessions clients few k past inside =
     let all : List (List ℕ) = map (λ i. stored_check (slice_get sessions i)) (range_with_len 0 named_places) in
     let long : length all ≡ named_places = length-map-range_with_len (λ i. stored_check (slice_get sessions i)) 0 named_places in
-    get_or-drop clients all k past
-    ∙ get_or-map-range_with_len (λ i. stored_check (slice_get sessions i)) 0 named_places (clients + k) (clients + k) past (omega (arith, inside, long, length-drop clients all)) (omega arith)
+    get_or-drop clients all k past ∙ get_or-map-range_with_len (λ i. stored_check (slice_get sessions i))
+    0 named_places (clients + k) (clients + k) past (omega (arith, inside, long, length-drop clients all)) (omega arith)
     ∙ ap stored_check (slice_get_past sessions (clients + k) (omega (arith, few)))
 
 pub recorded_is_super : (s : State) (f : SuperFields) → IsState s → IsSessionTable s.table → MayRecord s f → IsSuper (recorded s f)
@@ -100,7 +104,8 @@ abbrev pub numbers_of : SuperFields → ℕ × ℕ × ℕ × ℕ × ℕ × ℕ
 numbers_of f = (f.slots, f.message_size, f.clients, f.block_size, f.blocks, f.cluster)
 
 -- another one with the same numbers is of the file, too
-pub numbers_as : (file : DataFile) (f g : SuperFields) → numbers_of g ≡ numbers_of f → AreFieldsOf file.layout file.cluster f → AreFieldsOf file.layout file.cluster g
+pub numbers_as : (file : DataFile) (f g : SuperFields)
+    → numbers_of g ≡ numbers_of f → AreFieldsOf file.layout file.cluster f → AreFieldsOf file.layout file.cluster g
 numbers_as file f g same of = record {
   slots = (λ i. (same i).0) ∙ of.slots;
   message_size = (λ i. (same i).1) ∙ of.message_size;
@@ -110,11 +115,13 @@ numbers_as file f g same of = record {
   cluster_is = (λ i. (same i).5) ∙ of.cluster_is;
 }
 
-pub second_as : (file : DataFile) (f g : SuperFields) → IsSecond file f → numbers_of g ≡ numbers_of f → g.version ≡ 2 → IsUsable g → IsSecond file g
+pub second_as : (file : DataFile) (f g : SuperFields)
+    → IsSecond file f → numbers_of g ≡ numbers_of f → g.version ≡ 2 → IsUsable g → IsSecond file g
 second_as file f g is same second usable = second_super file g second usable (numbers_as file f g same is.of)
 
 -- the superblock of a state may be recorded anew, in the next boot
-pub boot_may_record : (s : State) → IsState s → IsSuper s.fields → s.fields.boot < 2 ^ 62 → MayRecord s (record s.fields { boot = s.fields.boot + 1 })
+pub boot_may_record : (s : State)
+    → IsState s → IsSuper s.fields → s.fields.boot < 2 ^ 62 → MayRecord s (record s.fields { boot = s.fields.boot + 1 })
 boot_may_record s is super unspent = record {
   version = is.second.rules.version;
   boot = omega (arith, unspent);

@@ -1,7 +1,6 @@
 -- A file is its layout, its cluster and its version.
 use Rattle.std.proofs.{Common.{◌≡◌, ℕ, ◌<◌, ap, subst}, Math.Bridge.{le_prop}, Math.Nat.{ℕ_set}}
-use Rattle.df_layout.specs.declared.layout.Layout.{Layout}
-use Rattle.df_rooms.specs.declared.file.DataFile.{DataFile}
+use Rattle.{df_layout.specs.declared.layout.Layout.{Layout}, df_rooms.specs.declared.file.DataFile.{DataFile}}
 
 of_three : (n : Layout × ℕ × ℕ) → 0 < n.1 → DataFile
 of_three n named = record { layout = n.0; cluster = n.1; version = n.2; named = named }
@@ -17,4 +16,5 @@ same_three a b c d v w one two three = cc (one, two, three)
 
 pub same_file : (a b : DataFile) → a.layout ≡ b.layout → a.cluster ≡ b.cluster → a.version ≡ b.version → a ≡ b
 unfolding of_three
-same_file a b one two three = same_of_three (a.layout, a.cluster, a.version) (b.layout, b.cluster, b.version) (same_three a.layout b.layout a.cluster b.cluster a.version b.version one two three) a.named b.named
+same_file a b one two three = same_of_three (a.layout, a.cluster, a.version)
+    (b.layout, b.cluster, b.version) (same_three a.layout b.layout a.cluster b.cluster a.version b.version one two three) a.named b.named

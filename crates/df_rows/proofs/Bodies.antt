@@ -6,8 +6,7 @@ use Rattle.df_rows.{specs.{declared.command.Command.TheVariants.{Put, Drop}, Row
 -- ---- a body is one command
 
 pub one_command : OneCommand
-one_command (Put e) (Put f) is other same =
-    let parts = key_split e.0 f.0 e.1 f.1 is.key other.key (cc same) in
+one_command (Put e) (Put f) is other same = let parts = key_split e.0 f.0 e.1 f.1 is.key other.key (cc same) in
     ap Put (same_entry e f parts.0 parts.1)
 one_command (Put e) (Drop k) is other same = absurd (cc same)
 one_command (Drop k) (Put f) is other same = absurd (cc same)

@@ -27,8 +27,8 @@ apart q x k differ one other = differ (sym (Rattle.std.proofs.lemmas.Bool.eqb-tr
 
 pub look_set : (es : List Entry) (e : Entry) (i : ℕ) → IsAt es e.0 i → NoneBefore es e.0 i → Puts es (set es i e) e
 look_set [] e i is none q = absurd (omega (arith, is.inside))
-look_set (x ∷ es) e zero is none q =
-    shadowed (eqb q e.0) (Some e.1) (Some x.1) (look q es) ∙ ap (λ (k : ℕ). cond (eqb q e.0) (Some e.1) (cond (eqb q k) (Some x.1) (look q es))) (sym is.has)
+look_set (x ∷ es) e zero is none q = shadowed (eqb q e.0) (Some e.1) (Some x.1) (look q es)
+    ∙ ap (λ (k : ℕ). cond (eqb q e.0) (Some e.1) (cond (eqb q k) (Some x.1) (look q es))) (sym is.has)
 look_set (x ∷ es) e (suc i) is none q =
     ap (λ (o : Option (List ℕ)). cond (eqb q x.0) (Some x.1) o) (look_set es e i (at_tail x es e.0 i is) (none_tail x es e.0 i none) q)
     ∙ turned (eqb q x.0) (eqb q e.0) (Some x.1) (Some e.1) (look q es) (apart q x.0 e.0 (none 0 (omega arith)))
@@ -69,25 +69,28 @@ look_remove (x ∷ es) k (suc i) only q =
 
 module _ (es : List Entry) (rise : KeysRise es) where
   pub rise_insert : (e : Entry) (i : ℕ) → IsGap es e.0 i → KeysRise (insert es i e)
-  rise_insert e at gap i j lt inside =
-      let new = insert es at e in
-      let key = λ (x : Entry). x.0 in
+  rise_insert e at gap i j lt inside = let new = insert es at e in let key = λ (x : Entry). x.0 in
       let count = length-insert es at e gap.inside in
       let below : (n : ℕ) → n < at → key_at new n ≡ key_at es n = λ n before. ap key (get_or-insert_below es at e (0, []) n before gap.inside) in
-      let here : (n : ℕ) → n ≡ at → key_at new n ≡ e.0 = λ n same. ap (λ (m : ℕ). key_at new m) same ∙ ap key (get_or-insert_at es at e (0, []) gap.inside) in
-      let above : (n : ℕ) → at < n → key_at new n ≡ key_at es (n - 1) = λ n behind. subst (λ q. key_at new q ≡ key_at es (n - 1)) {x = n - 1 + 1} (omega arith) (ap key (get_or-insert_above es at e (0, []) (n - 1) (omega arith) gap.inside)) in
+      let here : (n : ℕ)
+      → n ≡ at → key_at new n ≡ e.0 = λ n same. ap (λ (m : ℕ). key_at new m) same ∙ ap key (get_or-insert_at es at e (0, []) gap.inside) in
+      let above : (n : ℕ) → at < n → key_at new n ≡ key_at es (n - 1) = λ n behind. subst (λ q. key_at new q
+      ≡ key_at es (n - 1)) {x = n - 1 + 1} (omega arith) (ap key (get_or-insert_above es at e (0, []) (n - 1) (omega arith) gap.inside)) in
       grind (arith, below i, here i, above i, below j, here j, above j, rise i j, rise i (j - 1), rise (i - 1) (j - 1), gap.before i, gap.behind (j - 1))
 
 -- ---- rows that are edited are rows
 
 module _ (max room : ℕ) (es : List Entry) (are : AreRows max room es) where
-  pub rows_insert : (room' : ℕ) (e : Entry) (i : ℕ) → room ≤ room' → length es < max → IsEntry e → IsGap es e.0 i → AreRows max room' (insert es i e)
+  pub rows_insert : (room' : ℕ) (e : Entry) (i : ℕ)
+      → room ≤ room' → length es < max → IsEntry e → IsGap es e.0 i → AreRows max room' (insert es i e)
   rows_insert room' e i grows free fits gap = record {
     rise = rise_insert es are.rise e i gap;
-    fit = All-append IsEntry (take i es) (e ∷ drop i es) (All-take IsEntry i es are.fit) (All-cons IsEntry e (drop i es) fits (All-drop IsEntry i es are.fit));
+    fit = All-append IsEntry
+        (take i es) (e ∷ drop i es) (All-take IsEntry i es are.fit) (All-cons IsEntry e (drop i es) fits (All-drop IsEntry i es are.fit));
     few = omega (arith, length-insert es i e gap.inside);
     reserved = omega (arith, are.reserved);
   }
 
   pub only_at : (k i : ℕ) → IsAt es k i → IsOnly es k i
-  only_at k i is = record { is = is; before = none_before_at es are.rise k i is; behind = λ j lt inside. none_behind_at es are.rise k i j is lt inside }
+  only_at k i is =
+      record { is = is; before = none_before_at es are.rise k i is; behind = λ j lt inside. none_behind_at es are.rise k i j is lt inside }

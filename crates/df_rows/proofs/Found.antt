@@ -17,7 +17,8 @@ tied q k = elim (cases_order q k) [
 
 pub find_looks : (q : ℕ) (es : List Entry) → find nat_cmp q es ≡ look q es
 find_looks q [] = refl
-find_looks q (e ∷ es) = ap (λ b. cond b (Some e.1) (find nat_cmp q es)) (tied q e.0) ∙ ap (λ (o : Option (List ℕ)). cond (eqb q e.0) (Some e.1) o) (find_looks q es)
+find_looks q (e ∷ es) = ap (λ b. cond b (Some e.1) (find nat_cmp q es)) (tied q e.0)
+    ∙ ap (λ (o : Option (List ℕ)). cond (eqb q e.0) (Some e.1) o) (find_looks q es)
 
 -- ---- a key's place
 
@@ -38,18 +39,19 @@ look_none (e ∷ es) k none = rw (ne_eqb k e.0 (λ same. none 0 (omega arith) (s
 pub look_at : (es : List Entry) (k i : ℕ) → IsAt es k i → NoneBefore es k i → look k es ≡ Some (get_or es i (0, [])).1
 look_at [] k i is none = absurd (omega (arith, is.inside))
 look_at (e ∷ es) k zero is none = rw (eq-eqb k e.0 (sym is.has)) refl
-look_at (e ∷ es) k (suc i) is none = rw (ne_eqb k e.0 (λ same. none 0 (omega arith) (sym same))) (look_at es k i (at_tail e es k i is) (none_tail e es k i none))
+look_at (e ∷ es) k (suc i) is none =
+    rw (ne_eqb k e.0 (λ same. none 0 (omega arith) (sym same))) (look_at es k i (at_tail e es k i is) (none_tail e es k i none))
 
 -- ---- where a search ends
 
 module _ (es : List Entry) (rise : KeysRise es) (k : ℕ) where
   comparisons_rise : IsNonDecreasingBy (λ (e : Entry). ordering_index (nat_cmp e.0 k)) es
   comparisons_rise = IsNonDecreasingBy-from_default (λ (e : Entry). ordering_index (nat_cmp e.0 k)) es (0, []) (λ i j le inside.
-      let keys : key_at es i ≤ key_at es j = grind (arith, rise i j, λ (same : i ≡ j). ap (key_at es) same) in
-      grind (arith, nat_tests))
+      let keys : key_at es i ≤ key_at es j = grind (arith, rise i j, λ (same : i ≡ j). ap (key_at es) same) in grind (arith, nat_tests))
 
   -- a search by key ends at the key, or at the gap for it
-  pub searched : (r : Result ℕ ℕ) → IsSearchInRange r (length es) → IsBinarySearchResult (λ (e : Entry). nat_cmp e.0 k) es r → record { found : IfOk r (IsAt es k); absent : IfErr r (IsGap es k) }
+  pub searched : (r : Result ℕ ℕ) → IsSearchInRange r (length es)
+      → IsBinarySearchResult (λ (e : Entry). nat_cmp e.0 k) es r → record { found : IfOk r (IsAt es k); absent : IfErr r (IsGap es k) }
   searched (Ok at) inside equal = record { found = record { inside = inside; has = ranked _ k _ (sym (equal (0, []))) }; absent = tt }
   searched (Err at) inside parted = record {
     found = tt;

@@ -47,19 +47,18 @@ module _ (max room : ℕ) (es : List Entry) (t : Table) (is : table_of max es �
   get_gap k i gap = get_is k ∙ missed_in_gap es k i gap
 
   pub put_at_place : (e : Entry) (i : ℕ) → IsAt es e.0 i → table_of max (set es i e) ≡ with_row e t
-  put_at_place e i at =
-      same_rows max (map_of (set es i e)) (map.insert (map_of es) e.0 e.1) (inserted es (set es i e) e (look_set es e i at (only_at max room es are e.0 i at).before))
+  put_at_place e i at = same_rows max (map_of (set es i e))
+      (map.insert (map_of es) e.0 e.1) (inserted es (set es i e) e (look_set es e i at (only_at max room es are e.0 i at).before))
       ∙ ap (λ (x : Table). with_row e x) is
 
   pub put_in_gap : (e : Entry) (i : ℕ) → IsGap es e.0 i → table_of max (insert es i e) ≡ with_row e t
-  put_in_gap e i gap =
-      same_rows max (map_of (insert es i e)) (map.insert (map_of es) e.0 e.1)
+  put_in_gap e i gap = same_rows max (map_of (insert es i e)) (map.insert (map_of es) e.0 e.1)
       (inserted es (insert es i e) e (look_insert es e i gap.inside (λ j before. none_in_gap es e.0 i gap j (omega (arith, gap.inside)))))
       ∙ ap (λ (x : Table). with_row e x) is
 
   pub remove_at : (k i : ℕ) → IsAt es k i → table_of max (remove es i) ≡ record { max = t.max; rows = map.remove t.rows k }
-  remove_at k i at =
-      same_rows max (map_of (remove es i)) (map.remove (map_of es) k) (removed es (remove es i) k (look_remove es k i (only_at max room es are k i at)))
+  remove_at k i at = same_rows max
+      (map_of (remove es i)) (map.remove (map_of es) k) (removed es (remove es i) k (look_remove es k i (only_at max room es are k i at)))
       ∙ ap (λ (x : Table). without k x) is
 
   pub remove_none : (k i : ℕ) → IsGap es k i → t ≡ record { max = t.max; rows = map.remove t.rows k }

@@ -1,6 +1,5 @@
 -- Worked sessions compute.
-use Rattle.std.{proofs.Common.{refl}, specs.Fmt.{digits}}
-use Rattle.hex.specs.Hex.{encode_with}
+use Rattle.{std.{proofs.Common.{refl}, specs.Fmt.{digits}}, hex.specs.Hex.{encode_with}}
 use Rattle.df_script_model.specs.Sessions.{BlockSession, FirstSession, FullGrid, FullPipeline, FullStaged, FullTable, GroupSession, RingSession, ScrubSession}
 
 pub first_session : FirstSession

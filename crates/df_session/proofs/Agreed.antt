@@ -1,4 +1,5 @@
--- No command tells two things apart that a device may show and that agree: it answers the same and leaves the same, and what it leaves shown agrees.
+-- No command tells two things apart that a device may show and that agree: it answers the same and leaves the same, and what it leaves
+-- shown agrees.
 use Rattle.std.{proofs.{Common.{◌≡◌, ℕ, zero, suc, ◌+◌, ◌%◌, ◌<◌, ◌≤◌, ◌==◌, Bool, true, false, if◌then◌else◌, cond, List, [], ◌∷◌, Option, Some, None, Result, refl, ◌∙◌, ap, arith, mod-lt}, lemmas.Bool.{and_from, le-leb, lt-ltb, not-false}, lemmas.Bool.Decides.{nat_tests}}, specs.{Prelude.{nat_lt}, List.{filter, range_with_len}}}
 use Rattle.df_layout.{specs.{declared.damage.Class.{Class}, declared.layout.Layout.{Layout}}, proofs.Laws.{some_slots}}
 use Rattle.df_theory.specs.{Units.{AnyUnit, BlockPlace, Message, Place, PreparePlace, ReplyPlace}, View.{sessions}}
@@ -9,12 +10,14 @@ use Rattle.df_session.specs.{Agreeing.{AgreeShown}, Results.{NextAgrees}, Codec.
 -- ---- which places are read
 
 -- an address that is looked up in a map of these addresses is one of them
-sum_case : (f : ℕ → Option ℕ) (s n a : ℕ) (o : Option ℕ) → (is_known (sum_at a (entries f (range_with_len (s + 1) n))) ≡ true → (s + 1 ≤ a) × (a < s + 1 + n)) → is_known (sum_at a (entry s o (entries f (range_with_len (s + 1) n)))) ≡ true
+sum_case : (f : ℕ → Option ℕ) (s n a : ℕ) (o : Option ℕ) → (is_known (sum_at a (entries f (range_with_len (s + 1) n))) ≡ true
+    → (s + 1 ≤ a) × (a < s + 1 + n)) → is_known (sum_at a (entry s o (entries f (range_with_len (s + 1) n)))) ≡ true
     → (s ≤ a) × (a < s + suc n)
 sum_case f s n a None more known = let there = more known in (omega (arith, there.0), omega (arith, there.1))
 sum_case f s n a (Some c) more known = go (s == a) refl known
   where
-    go : (b : Bool) → (s == a) ≡ b → is_known (if b then Some c else sum_at a (entries f (range_with_len (s + 1) n))) ≡ true → (s ≤ a) × (a < s + suc n)
+    go : (b : Bool)
+        → (s == a) ≡ b → is_known (if b then Some c else sum_at a (entries f (range_with_len (s + 1) n))) ≡ true → (s ≤ a) × (a < s + suc n)
     go true same is = let here : s ≡ a = grind (arith, nat_tests) in (omega (arith, here), omega (arith, here))
     go false same is = let there = more is in (omega (arith, there.0), omega (arith, there.1))
 
@@ -37,9 +40,11 @@ entry_within s n (Some c) xs are = (omega arith, omega arith, are)
 
 entries_within : (f : ℕ → Option ℕ) (s n : ℕ) → Within s n (entries f (range_with_len s n))
 entries_within f s zero = tt
-entries_within f s (suc n) = entry_within s n (f s) (entries f (range_with_len (s + 1) n)) (within_more s n (entries f (range_with_len (s + 1) n)) (entries_within f (s + 1) n))
+entries_within f s (suc n) = entry_within
+    s n (f s) (entries f (range_with_len (s + 1) n)) (within_more s n (entries f (range_with_len (s + 1) n)) (entries_within f (s + 1) n))
 
-filter_case : (s n : ℕ) (p : ℕ × ℕ → Bool) (x : ℕ × ℕ) (xs : List (ℕ × ℕ)) (b : Bool) → (s ≤ x.0) × (x.0 < s + n) → Within s n (filter p xs) → Within s n (cond b (x ∷ filter p xs) (filter p xs))
+filter_case : (s n : ℕ) (p : ℕ × ℕ → Bool) (x : ℕ × ℕ) (xs : List (ℕ × ℕ)) (b : Bool)
+    → (s ≤ x.0) × (x.0 < s + n) → Within s n (filter p xs) → Within s n (cond b (x ∷ filter p xs) (filter p xs))
 filter_case s n p x xs true here rest = (here.0, here.1, rest)
 filter_case s n p x xs false here rest = rest
 
@@ -49,12 +54,14 @@ filter_within s n p (x ∷ xs) are = filter_case s n p x xs (p x) (are.0, are.1)
 
 -- ---- what is read
 
-shown_same : {X E : Type 0} (o : Option E) (damaged : Class → E) (a b : Result X Class) → (o ≡ None → a ≡ b) → shown_or o damaged a ≡ shown_or o damaged b
+shown_same : {X E : Type 0} (o : Option E) (damaged : Class → E) (a b : Result X Class)
+    → (o ≡ None → a ≡ b) → shown_or o damaged a ≡ shown_or o damaged b
 shown_same None damaged a b same = ap (shown_or None damaged) (same refl)
 shown_same (Some e) damaged a b same = refl
 
 module _ (layout : Layout) (one other : Shown) (agree : AgreeShown layout one other) where
-  class_case : (place : Place) → IsReadPlace layout place → (o : Option AnyUnit) → one.units place ≡ o → class_or o (one.damage place) ≡ class_or o (other.damage place)
+  class_case : (place : Place) → IsReadPlace layout place
+      → (o : Option AnyUnit) → one.units place ≡ o → class_or o (one.damage place) ≡ class_or o (other.damage place)
   class_case place read None is = agree.classes place read is
   class_case place read (Some x) is = refl
 
@@ -82,7 +89,8 @@ module _ (layout : Layout) (one other : Shown) (agree : AgreeShown layout one ot
 
 -- ---- every command
 
-module _ (file : DataFile) (one other : Shown) (agree : AgreeShown file.layout one other) (w : Work) (work : IsWork (shape file) (spelling file) w) where
+module _ (file : DataFile)
+    (one other : Shown) (agree : AgreeShown file.layout one other) (w : Work) (work : IsWork (shape file) (spelling file) w) where
   abbrev m : Memory
   m = memory_of (shape file) (spelling file) w
 
@@ -90,33 +98,31 @@ module _ (file : DataFile) (one other : Shown) (agree : AgreeShown file.layout o
   by shown c = next (shape file) (codec file) shown w c
 
   prepare_agrees : (op : ℕ) → by one (ReadPrepare op) ≡ by other (ReadPrepare op)
-  prepare_agrees op =
-      ap (λ (x : Result Message Class). let y : Work × Answer = (w, ToReadPrepare (prepare_answer m x op)) in y)
+  prepare_agrees op = ap (λ (x : Result Message Class). let y : Work × Answer = (w, ToReadPrepare (prepare_answer m x op)) in y)
       (prepare_same file.layout one other agree (prepare_sum m op) (op % m.layout.slots) (mod-lt op (some_slots file.layout)))
 
   reply_agrees : (client : ℕ) → by one (ReadReply client) ≡ by other (ReadReply client)
-  reply_agrees client =
-      let place = place_of_client client m.sessions in
-      let same : lookup_answer m (reply_at one (reply_sum m place) place) client ≡ lookup_answer m (reply_at other (reply_sum m place) place) client =
+  reply_agrees client = let place = place_of_client client m.sessions in
+      let same : lookup_answer m (reply_at one (reply_sum m place) place) client
+      ≡ lookup_answer m (reply_at other (reply_sum m place) place) client =
       shown_same (first_refusal (lookup_refusals m client)) _ _ _ (λ none.
       let inside = place_known client (sessions w.view) (all_pass (lookup_refusals m client) none).0 in
       reply_same file.layout one other agree (reply_sum m place) place (omega (arith, inside, work.sessions.few))) in
       ap (λ x. let y : Work × Answer = (w, ToReadReply x) in y) same
 
   block_agrees : (address : ℕ) → by one (ReadBlock address) ≡ by other (ReadBlock address)
-  block_agrees address =
-      let known = sum_at address m.blocks.live in
-      let same : read_answer m (no_trailer (block_at one known address)) address ≡ read_answer m (no_trailer (block_at other known address)) address =
+  block_agrees address = let known = sum_at address m.blocks.live in
+      let same : read_answer m (no_trailer (block_at one known address)) address
+      ≡ read_answer m (no_trailer (block_at other known address)) address =
       shown_same (first_refusal (read_refusals m address)) _ _ _ (λ none.
       let inside = sum_inside w.live 1 file.layout.blocks address (not-false (is_known known) (all_pass (read_refusals m address) none).0) in
       ap no_trailer (block_same file.layout one other agree known address inside.0 inside.1)) in
       ap (λ x. let y : Work × Answer = (w, ToReadBlock x) in y) same
 
   scrub_agrees : by one Scrub ≡ by other Scrub
-  scrub_agrees =
-      let l = to_check m in
-      ap (λ (v : Verdict). as_answer ToScrub (after_check w v l))
-      (check_same file.layout one other agree l (filter_within 1 file.layout.blocks (λ x. nat_lt m.tour.last x.0) (entries (reference_in m.blocks) (addresses m.layout)) (entries_within (reference_in m.blocks) 1 file.layout.blocks)))
+  scrub_agrees = let l = to_check m in ap (λ (v : Verdict). as_answer ToScrub (after_check w v l))
+      (check_same file.layout one other agree l (filter_within 1 file.layout.blocks (λ x. nat_lt m.tour.last x.0)
+      (entries (reference_in m.blocks) (addresses m.layout)) (entries_within (reference_in m.blocks) 1 file.layout.blocks)))
 
   pub next_agrees : (c : Command) → by one c ≡ by other c
   next_agrees (ReadPrepare op) = prepare_agrees op

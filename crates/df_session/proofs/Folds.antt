@@ -23,8 +23,7 @@ module _ (file : DataFile) (m : Memory) where
 
   group_small : (first last op parent : ℕ) (rs : List Request) → AreChecksums (group_sums (codec file) m first last op parent rs)
   group_small first last op parent [] = tt
-  group_small first last op parent (r ∷ rs) =
-      let p = prepare_in m first last op parent 0 r in
+  group_small first last op parent (r ∷ rs) = let p = prepare_in m first last op parent 0 r in
       (small (prepare_header file p.header) p.body, group_small first last (op + 1) ((codec file).prepare p) rs)
 
   given_small : (c : Command) → AreChecksums (checksums_given (codec file) m c)
@@ -49,7 +48,8 @@ module _ (file : DataFile) (one other : Shown) (m : Memory) (c : Command) (agree
   abbrev put : Place → Option AnyUnit
   put = puts_of m (checksums_given (codec file) m c) c
 
-  classes_then : (place : Place) → IsReadPlace file.layout place → (o : Option AnyUnit) → put place ≡ o → or_else o (one.units place) ≡ None → one.damage place ≡ other.damage place
+  classes_then : (place : Place) → IsReadPlace file.layout place
+      → (o : Option AnyUnit) → put place ≡ o → or_else o (one.units place) ≡ None → one.damage place ≡ other.damage place
   classes_then place read None is none = agree.classes place read none
   classes_then place read (Some x) is none = absurd (cc)
 
@@ -67,11 +67,12 @@ module _ (file : DataFile) (one other : Shown) (m : Memory) (c : Command) (agree
 
 pub result_agrees : ResultAgrees
 result_agrees file one other w [] agree work range = refl
-result_agrees file one other w (c ∷ cs) agree work range =
-    let m = memory_of (shape file) (spelling file) w in
+result_agrees file one other w (c ∷ cs) agree work range = let m = memory_of (shape file) (spelling file) w in
     let same = next_agrees file one other agree w work c in
     let later : IsWork (shape file) (spelling file) (over (shape file) (codec file) one w c).0 =
-    sense_law (shape file) (spelling file) w (supplied (codec file) one m c) c (record { checksums = supplied_small file m one c; fields = range.0 }) work in
-    let rest = result_agrees file (shown_after (codec file) one m c) (shown_after (codec file) other m c) (over (shape file) (codec file) one w c).0 cs (agrees_then file one other m c agree) later range.1 in
-    (λ i. (same i).1 ∷ rest i)
-    ∙ ap (λ (x : Work × Answer). (over (shape file) (codec file) other w c).1 ∷ result (shape file) (codec file) (shown_after (codec file) other m c) x.0 cs) same
+    sense_law (shape file)
+    (spelling file) w (supplied (codec file) one m c) c (record { checksums = supplied_small file m one c; fields = range.0 }) work in
+    let rest = result_agrees file (shown_after (codec file) one m c) (shown_after (codec file) other m c)
+    (over (shape file) (codec file) one w c).0 cs (agrees_then file one other m c agree) later range.1 in (λ i. (same i).1 ∷ rest i)
+    ∙ ap (λ (x : Work × Answer).
+    (over (shape file) (codec file) other w c).1 ∷ result (shape file) (codec file) (shown_after (codec file) other m c) x.0 cs) same

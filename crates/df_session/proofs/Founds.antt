@@ -1,15 +1,13 @@
 -- A file as calls are made on it is the one that was found.
-use Rattle.std.proofs.Common.{◌≡◌, ◌∙◌, inl, inr, ap, subst, sym}
-use Rattle.df_disk.specs.Told.{Told}
-use Rattle.df_layout.specs.declared.layout.Layout.{Layout}
-use Rattle.df_theory.specs.Found.{IsFound}
-use Rattle.df_units.specs.Bytes.{unit_at}
+use Rattle.{std.proofs.Common.{◌≡◌, ◌∙◌, inl, inr, ap, subst, sym}, df_disk.specs.Told.{Told}, df_theory.specs.Found.{IsFound}}
+use Rattle.{df_layout.specs.declared.layout.Layout.{Layout}, df_units.specs.Bytes.{unit_at}, df_session.specs.Found.{FoundFile}}
 use Rattle.df_replica.specs.Below.{DataFile, IsOpened, State as Replica, shape}
-use Rattle.df_session.specs.Found.{FoundFile}
 
 -- a view that is found in an image, with the layout of its file
-found_here : (layout : Layout) (t : Told) (s : Replica) (is : IsOpened layout t.shown s) → IsFound (shape s.file) (unit_at s.file.layout s.file.cluster t.shown) is.view
-found_here layout t s is = subst (λ (l : Layout). IsFound (shape s.file) (unit_at l s.file.cluster t.shown) is.view) (sym is.of.layout_is) is.found
+found_here : (layout : Layout) (t : Told) (s : Replica) (is : IsOpened layout t.shown s)
+    → IsFound (shape s.file) (unit_at s.file.layout s.file.cluster t.shown) is.view
+found_here layout t s is =
+    subst (λ (l : Layout). IsFound (shape s.file) (unit_at l s.file.cluster t.shown) is.view) (sym is.of.layout_is) is.found
 
 module _ (layout : Layout) (t : Told) (file : FoundFile layout t) where
   pub file_there : file.replica.file ≡ file.found.file

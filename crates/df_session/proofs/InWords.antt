@@ -1,11 +1,9 @@
 -- What an answer is in the machine's words, and what a call comes to, by what is heard of it.
 use Rattle.std.{proofs.Common.{◌≡◌, ℕ, Bool, true, false, Option, Some, None, if◌then◌else◌, refl, sym, ◌∙◌, ap, Result, Ok, Err}, specs.Prelude.{OnOk}}
-use Rattle.df_base.specs.Causes.{Blamed, IsBlamed}
-use Rattle.df_disk.specs.Told.{Told}
+use Rattle.{df_base.specs.Causes.{Blamed, IsBlamed}, df_disk.specs.Told.{Told}, df_replica.specs.Below.{State as Replica}}
 use Rattle.df_model.specs.{Commands.{Answer as Answered, Command, ToAdvance, ToAppend, ToBegin, ToFlush, ToReadBlock, ToReadPrepare, ToReadReply, ToRelease, ToReply, ToScrub, ToStage, ToWriteBlock}, declared.answers.Progress.TheVariants.{Done, Working}, Called.{command_of}, declared.commands.Answer.{Answer}, declared.commands.Command.{Command as Asked}, Faults.{is_append_fault, is_block_fault, is_flush_fault, is_lookup_fault, is_prepare_fault, is_read_fault, is_reply_fault}}
 use Rattle.df_model.specs.declared.commands.Answer.TheVariants as answers
 use Rattle.df_model.specs.declared.errors.StepError.TheVariants as step
-use Rattle.df_replica.specs.Below.{State as Replica}
 use Rattle.df_units.specs.Meaning.{number_of}
 use Rattle.df_session.{specs.{Calls.{IsExact, LendsNothing, is_fault, machine_answer}, Endings.{KeepsTour, MakesTo, heard, is_disk_fault, unless_damaged}, Links.{Makes}, declared.hearing.Fault.{Fault}, declared.hearing.Fault.TheVariants.{Disk, Damaged}}, proofs.Exact.{Called, exact_damaged, exact_lends}}
 
@@ -17,7 +15,8 @@ InWords a (Ok b) = (b ≡ a) × (x : Answered) × (machine_answer a ≡ Some x)
 InWords a (Err Disk) = machine_answer a ≡ None
 InWords a (Err (Damaged place class)) = (a ≡ answers.Advance (Err (step.Damaged place class))) × (machine_answer a ≡ None)
 
-refused : (fault : Bool) (a : Answer) (x : Answered) → machine_answer a ≡ (if fault then None else Some x) → InWords a (if fault then Err Disk else Ok a)
+refused : (fault : Bool) (a : Answer) (x : Answered)
+    → machine_answer a ≡ (if fault then None else Some x) → InWords a (if fault then Err Disk else Ok a)
 refused true a x is = is
 refused false a x is = (refl, x, is)
 
@@ -57,7 +56,8 @@ module _ (before now : ℕ) where
   still (answers.Advance (Err step.DiskFault)) same = same
   still case same = same
 
-  blamed_as : (a : Answer) (fault : Bool) → Blamed fault before now → IsBlamed {T = Answer} is_disk_fault before now (if fault then Err Disk else unless_damaged a)
+  blamed_as : (a : Answer) (fault : Bool)
+      → Blamed fault before now → IsBlamed {T = Answer} is_disk_fault before now (if fault then Err Disk else unless_damaged a)
   blamed_as a true blamed = blamed
   blamed_as a false same = still a same
 
@@ -70,7 +70,8 @@ pub record Made (command : Command) (s t : Replica) (old new : Option Told) (bef
   pub disk : IsBlamed is_disk_fault before now r
 
 module _ (command : Command) (s t : Replica) (old new : Option Told) where
-  makes_to : (a : Answer) → IsExact command s t old new a → Makes command s t old new (machine_answer a) → (r : Result Answer Fault) → InWords a r → MakesTo command s t old new r
+  makes_to : (a : Answer) → IsExact command s t old new a
+      → Makes command s t old new (machine_answer a) → (r : Result Answer Fault) → InWords a r → MakesTo command s t old new r
   makes_to a exact makes (Ok b) is = record {
     exact = rw (sym is.0) at exact;
     told = is.1;
@@ -78,8 +79,7 @@ module _ (command : Command) (s t : Replica) (old new : Option Told) where
     makes = rw is.2 at makes;
   }
   makes_to a exact makes (Err Disk) none = (rw none at makes, tt)
-  makes_to a exact makes (Err (Damaged place class)) is =
-      (rw is.1 at makes, exact_damaged s t old new a command exact place class is.0)
+  makes_to a exact makes (Err (Damaged place class)) is = (rw is.1 at makes, exact_damaged s t old new a command exact place class is.0)
 
   -- a replica that answered lives on
   pub lives : (r : Result Answer Fault) → MakesTo command s t old new r → OnOk r (t.live ≡ true)
@@ -92,7 +92,7 @@ module _ (command : Command) (s t : Replica) (old new : Option Told) where
       record { makes = made; live = lives (heard a) made; tour = called.no_check (heard a); disk = blamed_as before now a (is_fault a) called.cause }
 
 -- of a command that was asked in other words
-pub heard_so : {x y : Asked} {s t : Replica} {old new : Option Told} {before now : ℕ} {a : Answer} {r : Result Answer Fault} → x ≡ y → Called (command_of y) s t old new before now a → r ≡ heard a → Made (command_of x) s t old new before now r
-heard_so {x} {y} {s} {t} {old} {new} {before} {now} {a} {r} is called heard_is =
-    rw (sym is) at
+pub heard_so : {x y : Asked} {s t : Replica} {old new : Option Told} {before now : ℕ} {a : Answer} {r : Result Answer Fault}
+    → x ≡ y → Called (command_of y) s t old new before now a → r ≡ heard a → Made (command_of x) s t old new before now r
+heard_so {x} {y} {s} {t} {old} {new} {before} {now} {a} {r} is called heard_is = rw (sym is) at
     (rw (sym heard_is) at (heard_made (command_of y) s t old new before now a called))

@@ -21,10 +21,10 @@ log_after : (events : List Event) (t n : Told) → after_all events (Some t) ≡
 log_after [] t n is = ap (λ (x : Told). x.log) (same_told t n is)
 log_after (e ∷ es) t n is = log_after es (did e t) n is
 
-firm_on : (es : List Event) (log : Log) (sector : ℕ) → writes_to es sector ≡ false → loose log sector ≡ false → loose (adds es log) sector ≡ false
+firm_on : (es : List Event) (log : Log) (sector : ℕ)
+    → writes_to es sector ≡ false → loose log sector ≡ false → loose (adds es log) sector ≡ false
 firm_on [] log sector none firm = firm
-firm_on ((Write at bytes) ∷ es) log sector none firm =
-    let parts = or_parts (covers at bytes sector) (writes_to es sector) none in
+firm_on ((Write at bytes) ∷ es) log sector none firm = let parts = or_parts (covers at bytes sector) (writes_to es sector) none in
     firm_on es (add (Write at bytes) log) sector parts.1 (or_from (covers at bytes sector) (loose log sector) parts.0 firm)
 firm_on (Sync ∷ es) log sector none firm = firm_on es (add Sync log) sector none refl
 firm_on ((Stop changes) ∷ es) log sector none firm = firm_on es (add (Stop changes) log) sector none refl
@@ -47,12 +47,15 @@ module _ (w : Work) (clear : (r : Running) → w.running ≡ Some r → AtEachOf
   is_held_too a durable = last_true (is_known (w.live a)) (is_captured a w.running) (is_durable w a) durable
 
   -- so what spares the blocks that are held leaves them firm
-  pub stay_settled : (file : DataFile) (command : Command) (events : List Event) (log : Log) → SparesHeld file command w events → AreSettled file log w → AreSettled file (adds events log) w
+  pub stay_settled : (file : DataFile) (command : Command) (events : List Event) (log : Log)
+      → SparesHeld file command w events → AreSettled file log w → AreSettled file (adds events log) w
   stay_settled file command events log spares settled = record {
-    firm = λ a sector durable at. firm_on events log sector (spares a (is_held_too a durable) (not_next command a durable) sector at) (settled.firm a sector durable at);
+    firm = λ a sector durable at. firm_on
+        events log sector (spares a (is_held_too a durable) (not_next command a durable) sector at) (settled.firm a sector durable at);
   }
 
 -- ---- as it is told
 
-pub settled_told : (file : DataFile) (w : Work) (events : List Event) (t n : Told) → after_all events (Some t) ≡ Some n → AreSettled file (adds events t.log) w → AreSettled file n.log w
+pub settled_told : (file : DataFile) (w : Work) (events : List Event) (t n : Told)
+    → after_all events (Some t) ≡ Some n → AreSettled file (adds events t.log) w → AreSettled file n.log w
 settled_told file w events t n is settled = rw (log_after events t n is) at settled

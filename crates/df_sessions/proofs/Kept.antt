@@ -24,11 +24,11 @@ distinct_requested client request op (s ∷ sessions) distinct = elim (cases_Boo
 length_at : (client request op : ℕ) (sessions : List Session) (place : Option ℕ) → position (has_client client) sessions ≡ place → IsSome place
     → length (with_request client request op sessions) ≡ length sessions
 length_at client request op sessions None is some = cc
-length_at client request op sessions (Some i) is some =
-    let d : Session = requested client request op in
+length_at client request op sessions (Some i) is some = let d : Session = requested client request op in
     ap length (request_known client request op sessions i d (first_place (has_client client) sessions i d is)) ∙ length-set sessions i d
 
-length_known : (client request op : ℕ) (sessions : List Session) → IsKnownClient client sessions → length (with_request client request op sessions) ≡ length sessions
+length_known : (client request op : ℕ) (sessions : List Session)
+    → IsKnownClient client sessions → length (with_request client request op sessions) ≡ length sessions
 length_known client request op sessions known = length_at client request op sessions (position (has_client client) sessions) refl known
 
 length_most : (client request op : ℕ) (sessions : List Session) → length (with_request client request op sessions) ≤ length sessions + 1
@@ -38,15 +38,17 @@ length_most client request op (s ∷ sessions) = elim (cases_Bool (has_client cl
   | inr other ↦ rw other (omega (arith, length_most client request op sessions))
 ]
 
-within : (client request op : ℕ) (sessions : List Session) (max : ℕ) → length sessions ≤ max → IsKnownClient client sessions ⊎ (length sessions < max)
+within : (client request op : ℕ) (sessions : List Session) (max : ℕ)
+    → length sessions ≤ max → IsKnownClient client sessions ⊎ (length sessions < max)
     → length (with_request client request op sessions) ≤ max
 within client request op sessions max fits room = elim room [
   | inl known ↦ omega (arith, length_known client request op sessions known)
   | inr left ↦ omega (arith, length_most client request op sessions)
 ]
 
-pub request_keeps : (max client request op : ℕ) (sessions : List Session) → IsSessionTable (record { max = max; sessions = sessions }) → client ≢ 0
-    → IsKnownClient client sessions ⊎ (length sessions < max) → IsSessionTable (record { max = max; sessions = with_request client request op sessions })
+pub request_keeps : (max client request op : ℕ) (sessions : List Session)
+    → IsSessionTable (record { max = max; sessions = sessions }) → client ≢ 0 → IsKnownClient client sessions ⊎ (length sessions < max)
+    → IsSessionTable (record { max = max; sessions = with_request client request op sessions })
 request_keeps max client request op sessions is named room = record {
   some = is.some;
   most = is.most;
@@ -56,7 +58,8 @@ request_keeps max client request op sessions is named room = record {
 }
 
 -- a stored reply changes no client
-pub clients_replied : (place : ℕ) (reply : List ℕ) (sessions : List Session) → clients_of (with_reply_stored place reply sessions) ≡ clients_of sessions
+pub clients_replied : (place : ℕ) (reply : List ℕ) (sessions : List Session)
+    → clients_of (with_reply_stored place reply sessions) ≡ clients_of sessions
 clients_replied place reply [] = refl
 clients_replied zero reply (s ∷ sessions) = refl
 clients_replied (suc place) reply (s ∷ sessions) = ap (λ (cs : List ℕ). s.client ∷ cs) (clients_replied place reply sessions)
@@ -68,15 +71,13 @@ length_replied (suc place) reply (s ∷ sessions) = ap suc (length_replied place
 
 pub reply_keeps : (max place : ℕ) (reply : List ℕ) (sessions : List Session) → IsSessionTable (record { max = max; sessions = sessions })
     → IsSessionTable (record { max = max; sessions = with_reply_stored place reply sessions })
-reply_keeps max place reply sessions is =
-    let clients = clients_replied place reply sessions in
-    record {
-      some = is.some;
-      most = is.most;
-      within = omega (arith, length_replied place reply sessions);
-      distinct = rw (sym clients) at is.distinct;
-      named = rw (sym clients) at is.named;
-    }
+reply_keeps max place reply sessions is = let clients = clients_replied place reply sessions in record {
+  some = is.some;
+  most = is.most;
+  within = omega (arith, length_replied place reply sessions);
+  distinct = rw (sym clients) at is.distinct;
+  named = rw (sym clients) at is.named;
+}
 
 pub empty_keeps : (max : ℕ) → 1 ≤ max → max ≤ 64 → IsSessionTable (record { max = max; sessions = [] })
 unfolding IsDistinct

@@ -7,7 +7,8 @@ named_all [] named = tt
 named_all (s ∷ ss) named = (named 0 s refl, named_all ss (λ k t at. named (suc k) t at))
 
 -- a client that none of these has
-other_than : (client : ℕ) (ss : List Session) → ((k : ℕ) (s : Session) → slice_get ss k ≡ Some s → client ≡ s.client → ⊥) → AllByRecursion (λ y. nat_eq client y ≡ false) (clients_of ss)
+other_than : (client : ℕ) (ss : List Session) → ((k : ℕ) (s : Session) → slice_get ss k ≡ Some s → client ≡ s.client → ⊥)
+    → AllByRecursion (λ y. nat_eq client y ≡ false) (clients_of ss)
 other_than client [] other = tt
 other_than client (s ∷ ss) other = (
   elim (cases_Bool (nat_eq client s.client)) [ inl same ↦ absurd (other 0 s refl (eqb-true client s.client same)) | inr differs ↦ differs ],
@@ -28,5 +29,7 @@ apart_distinct (s ∷ ss) apart = (
     down : (j k : ℕ) → suc j ≡ suc k → j ≡ k
     down j k e = omega arith
 
-pub listed_table : (max : ℕ) (ss : List Session) → 1 ≤ max → max ≤ 64 → length ss ≤ max → AreNamed ss → AreDistinctClients ss → IsSessionTable (record { max = max; sessions = ss })
-listed_table max ss some most few named apart = record { some = some; most = most; within = few; distinct = apart_distinct ss apart; named = named_all ss named }
+pub listed_table : (max : ℕ) (ss : List Session)
+    → 1 ≤ max → max ≤ 64 → length ss ≤ max → AreNamed ss → AreDistinctClients ss → IsSessionTable (record { max = max; sessions = ss })
+listed_table max ss some most few named apart =
+    record { some = some; most = most; within = few; distinct = apart_distinct ss apart; named = named_all ss named }

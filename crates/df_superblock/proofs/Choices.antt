@@ -1,7 +1,6 @@
 -- How a content is shown to be chosen, and that contents can be told apart.
 use Rattle.std.{proofs.{Common.{◌≡◌, ◌⊎◌, inl, inr, ℕ, ◌<◌, Bool, true, false, List, [], ◌∷◌, Option, Some, None, refl, ap, arith}, lemmas.Bool.{cases_eq}, lemmas.Slice.Eq.{bytes_eq-Decides}}, specs.Str.{bytes_eq}}
-use Rattle.df_format.specs.{Copies.{Content}, declared.superblock.SuperFields.{SuperFields}}
-use Rattle.df_quorum.specs.Quorum.{Copies, CopiesAgree}
+use Rattle.{df_format.specs.{Copies.{Content}, declared.superblock.SuperFields.{SuperFields}}, df_quorum.specs.Quorum.{Copies, CopiesAgree}}
 
 -- another one of two copies that agree
 pub partner : (copies : Copies) (c : Content) → CopiesAgree copies c → (i : ℕ) → (j : ℕ) × (j < 4) × (i ≡ j → ⊥) × (copies j ≡ Some c)
@@ -50,19 +49,23 @@ same_option (Some a) (Some b) = elim (cases_eq a b) [
 
 -- the fields in three parts
 abbrev First : SuperFields → SuperFields → Type 0
-First f g = (f.version ≡ g.version) × ((f.slots ≡ g.slots) × ((f.message_size ≡ g.message_size) × ((f.clients ≡ g.clients) × ((f.block_size ≡ g.block_size) × (f.blocks ≡ g.blocks)))))
+First f g = (f.version ≡ g.version) × ((f.slots ≡ g.slots)
+    × ((f.message_size ≡ g.message_size) × ((f.clients ≡ g.clients) × ((f.block_size ≡ g.block_size) × (f.blocks ≡ g.blocks)))))
 
 abbrev Second : SuperFields → SuperFields → Type 0
-Second f g = (f.cluster ≡ g.cluster) × ((f.sequence ≡ g.sequence) × ((f.op ≡ g.op) × ((f.op_checksum ≡ g.op_checksum) × ((f.head ≡ g.head) × (f.replies ≡ g.replies)))))
+Second f g = (f.cluster ≡ g.cluster)
+    × ((f.sequence ≡ g.sequence) × ((f.op ≡ g.op) × ((f.op_checksum ≡ g.op_checksum) × ((f.head ≡ g.head) × (f.replies ≡ g.replies)))))
 
 abbrev Third : SuperFields → SuperFields → Type 0
 Third f g = (f.trailer_address ≡ g.trailer_address) × ((f.trailer_checksum ≡ g.trailer_checksum) × ((f.trailer_size ≡ g.trailer_size) × ((f.boot ≡ g.boot) × ((f.head_checksum ≡ g.head_checksum) × ((f.reply_checksums ≡ g.reply_checksums) × (f.first_nonzero ≡ g.first_nonzero))))))
 
 same_first : (f g : SuperFields) → Decided (First f g)
-same_first f g = both _ _ (cases_eq f.version g.version) (both _ _ (cases_eq f.slots g.slots) (both _ _ (cases_eq f.message_size g.message_size) (both _ _ (cases_eq f.clients g.clients) (both _ _ (cases_eq f.block_size g.block_size) (cases_eq f.blocks g.blocks)))))
+same_first f g = both _ _ (cases_eq f.version g.version) (both _ _ (cases_eq f.slots g.slots) (both _ _ (cases_eq f.message_size
+    g.message_size) (both _ _ (cases_eq f.clients g.clients) (both _ _ (cases_eq f.block_size g.block_size) (cases_eq f.blocks g.blocks)))))
 
 same_second : (f g : SuperFields) → Decided (Second f g)
-same_second f g = both _ _ (cases_eq f.cluster g.cluster) (both _ _ (cases_eq f.sequence g.sequence) (both _ _ (cases_eq f.op g.op) (both _ _ (same_list f.op_checksum g.op_checksum) (both _ _ (cases_eq f.head g.head) (cases_eq f.replies g.replies)))))
+same_second f g = both _ _ (cases_eq f.cluster g.cluster) (both _ _ (cases_eq f.sequence g.sequence) (both _ _ (cases_eq f.op g.op)
+    (both _ _ (same_list f.op_checksum g.op_checksum) (both _ _ (cases_eq f.head g.head) (cases_eq f.replies g.replies)))))
 
 same_third : (f g : SuperFields) → Decided (Third f g)
 same_third f g = both _ _ (cases_eq f.trailer_address g.trailer_address) (both _ _ (same_list f.trailer_checksum g.trailer_checksum) (both _ _ (cases_eq f.trailer_size g.trailer_size) (both _ _ (cases_eq f.boot g.boot) (both _ _ (same_list f.head_checksum g.head_checksum) (both _ _ (same_lists f.reply_checksums g.reply_checksums) (same_option f.first_nonzero g.first_nonzero))))))

@@ -9,41 +9,49 @@ use Rattle.df_superblock.{specs.{Copies.{AreQuiet, AreEqual, IsChoice, Spare}, E
 -- ---- members
 
 -- a copy that isn't among those that are written is spared by each write
-spared : (f : SuperFields) (puts : (m : ℕ) → m < 4 → PutsCopy m (copy_bytes m f) (content_with f)) (n number : ℕ) (members : List Bool) → number + length members ≤ 4 → Spares n number members → Spare (repair_events f number members) n
+spared : (f : SuperFields) (puts : (m : ℕ) → m < 4 → PutsCopy m (copy_bytes m f) (content_with f)) (n number : ℕ) (members : List Bool)
+    → number + length members ≤ 4 → Spares n number members → Spare (repair_events f number members) n
 spared f puts n number [] fits spares = tt
 spared f puts n number (true ∷ members) fits spares = spared f puts n (number + 1) members (omega arith) spares
-spared f puts n number (false ∷ members) fits spares = ((puts number (omega arith)).alone n spares.0, spared f puts n (number + 1) members (omega arith) spares.1)
+spared f puts n number (false ∷ members) fits spares =
+    ((puts number (omega arith)).alone n spares.0, spared f puts n (number + 1) members (omega arith) spares.1)
 
 -- what is shown in this sector stays
 abbrev ShowsStill : ℕ → Told → Option Told → Type 0
 ShowsStill n t None = ⊥
 ShowsStill n t (Some u) = u.shown n ≡ t.shown n
 
-still_from : (e : Event) (t : Told) (new : Option Told) (n : ℕ) → (did e t).shown n ≡ t.shown n → ShowsStill n (did e t) new → ShowsStill n t new
+still_from : (e : Event) (t : Told) (new : Option Told) (n : ℕ)
+    → (did e t).shown n ≡ t.shown n → ShowsStill n (did e t) new → ShowsStill n t new
 still_from e t None n same still = absurd still
 still_from e t (Some u) n same still = still ∙ same
 
 still_shown : (es : List Event) (t : Told) (new : Option Told) (n : ℕ) → Spare es n → AddsPart es (Some t) new → ShowsStill n t new
 still_shown [] t new n spare is = subst (λ (o : Option Told). ShowsStill n t o) (sym is) refl
 still_shown (e ∷ es) t new n spare (inl is) = subst (λ (o : Option Told). ShowsStill n t o) (sym is) refl
-still_shown ((Write at bytes) ∷ es) t new n spare (inr is) = still_from (Write at bytes) t new n (written_else at bytes t.shown n spare.0) (still_shown es (did (Write at bytes) t) new n spare.1 is)
+still_shown ((Write at bytes) ∷ es) t new n spare (inr is) =
+    still_from (Write at bytes) t new n (written_else at bytes t.shown n spare.0) (still_shown es (did (Write at bytes) t) new n spare.1 is)
 still_shown (Sync ∷ es) t new n spare (inr is) = still_from Sync t new n refl (still_shown es (did Sync t) new n spare is)
 still_shown ((Stop cs) ∷ es) t new n spare (inr is) = absurd spare
 
-member_stays : (f : SuperFields) (members : List Bool) (t u : Told) (n : ℕ) → IsUsable f → length members ≡ 4 → AddsPart (repair_events f 0 members) (Some t) (Some u) → IsTrue (get_or members n false) → u.shown n ≡ t.shown n
-member_stays f members t u n usable size is member =
-    let place : 0 + n ≡ n = omega arith in
+member_stays : (f : SuperFields) (members : List Bool) (t u : Told) (n : ℕ) → IsUsable f
+    → length members ≡ 4 → AddsPart (repair_events f 0 members) (Some t) (Some u) → IsTrue (get_or members n false) → u.shown n ≡ t.shown n
+member_stays f members t u n usable size is member = let place : 0 + n ≡ n = omega arith in
     let spares : Spares n 0 members = rw place at (member_spared 0 n members member) in
     still_shown (repair_events f 0 members) t (Some u) n (spared f (copy_put f usable) n 0 members (omega arith) spares) is
 
-pub keeps_members : {T E : Type 0} → (f : SuperFields) (members : List Bool) (old new : Option Told) (result : Result T E) → IsUsable f → length members ≡ 4 → Adds (repair_events f 0 members) old new result → KeepsMembers members old new
+pub keeps_members : {T E : Type 0} → (f : SuperFields) (members : List Bool) (old new : Option Told) (result : Result T E)
+    → IsUsable f → length members ≡ 4 → Adds (repair_events f 0 members) old new result → KeepsMembers members old new
 keeps_members f members None new result usable size is = tt
-keeps_members f members (Some t) None result usable size is = absurd (tells_on (repair_events f 0 members) t (adds_part (repair_events f 0 members) (Some t) None result is))
-keeps_members f members (Some t) (Some u) result usable size is = λ n below member. member_stays f members t u n usable size (adds_part (repair_events f 0 members) (Some t) (Some u) result is) member
+keeps_members f members (Some t) None result usable size is =
+    absurd (tells_on (repair_events f 0 members) t (adds_part (repair_events f 0 members) (Some t) None result is))
+keeps_members f members (Some t) (Some u) result usable size is =
+    λ n below member. member_stays f members t u n usable size (adds_part (repair_events f 0 members) (Some t) (Some u) result is) member
 
 -- ---- one place after the other
 
-members_are : (members : List Bool) → length members ≡ 4 → members ≡ get_or members 0 false ∷ get_or members 1 false ∷ get_or members 2 false ∷ get_or members 3 false ∷ []
+members_are : (members : List Bool)
+    → length members ≡ 4 → members ≡ get_or members 0 false ∷ get_or members 1 false ∷ get_or members 2 false ∷ get_or members 3 false ∷ []
 members_are [] size = absurd (omega arith)
 members_are (a ∷ []) size = absurd (omega arith)
 members_are (a ∷ b ∷ []) size = absurd (omega arith)
@@ -69,11 +77,14 @@ module _ (f : SuperFields) (members : List Bool) (size : length members ≡ 4) w
     pub first_fails : (old new : Option Told) → AddsPart (part 0) old new → Adds (repair_events f 0 members) old new result
     first_fails old new is = some_mended old new (part_then (part 0) _ old new is)
 
-    pub second_fails : (old one new : Option Told) → one ≡ after_all (part 0) old → AddsPart (part 1) one new → Adds (repair_events f 0 members) old new result
+    pub second_fails : (old one new : Option Told)
+        → one ≡ after_all (part 0) old → AddsPart (part 1) one new → Adds (repair_events f 0 members) old new result
     second_fails old one new first is = some_mended old new (all_then (part 0) _ old one new first (part_then (part 1) _ one new is))
 
-    pub third_fails : (old one two new : Option Told) → one ≡ after_all (part 0) old → two ≡ after_all (part 1) one → AddsPart (part 2) two new → Adds (repair_events f 0 members) old new result
-    third_fails old one two new first second is = some_mended old new (all_then (part 0) _ old one new first (all_then (part 1) _ one two new second (part_then (part 2) _ two new is)))
+    pub third_fails : (old one two new : Option Told) → one ≡ after_all (part 0) old
+        → two ≡ after_all (part 1) one → AddsPart (part 2) two new → Adds (repair_events f 0 members) old new result
+    third_fails old one two new first second is = some_mended
+        old new (all_then (part 0) _ old one new first (all_then (part 1) _ one two new second (part_then (part 2) _ two new is)))
 
 -- ---- moments, and the end
 
@@ -83,7 +94,8 @@ pub record IsFor (f : SuperFields) (chosen : Chosen) : Type 0 where
   pub fields : f ≡ chosen.content
   pub size : length chosen.members ≡ 4
 
-module _ (f : SuperFields) (chosen : Chosen) (for : IsFor f chosen) (log : Log) (c : Content) (whole : IsLog log) (choice : IsChoice (content_at (now log)) chosen c) where
+module _ (f : SuperFields) (chosen : Chosen)
+    (for : IsFor f chosen) (log : Log) (c : Content) (whole : IsLog log) (choice : IsChoice (content_at (now log)) chosen c) where
   abbrev members : List Bool
   members = chosen.members
 
@@ -94,8 +106,7 @@ module _ (f : SuperFields) (chosen : Chosen) (for : IsFor f chosen) (log : Log) 
   agreed = choice.is.agreed
 
   same : content_with f ≡ c
-  same =
-      let image : IsImage (now log) = now_is_image log.start log.events whole.start whole.events in
+  same = let image : IsImage (now log) = now_is_image log.start log.events whole.start whole.events in
       one_content (now log) agreed.first c f (image.sectors agreed.first) for.usable agreed.at_first (choice.fields ∙ sym for.fields)
 
   puts : (n : ℕ) → n < 4 → PutsCopy n (copy_bytes n f) c
@@ -104,8 +115,7 @@ module _ (f : SuperFields) (chosen : Chosen) (for : IsFor f chosen) (log : Log) 
   pub equal : AreEqual (now (adds (repair_events f 0 members) log)) c
   equal n below = elim (cases_Bool (get_or members n false)) [
     | inl member ↦ shown_stays f c puts n 0 members log fits ((choice.members n below).0 member)
-    | inr other ↦
-        let place : 0 + n ≡ n = omega arith in
+    | inr other ↦ let place : 0 + n ≡ n = omega arith in
         written_shows f c puts n 0 members log fits (rw place at (other_written 0 n members (omega (arith, for.size)) other))
   ]
 
@@ -113,7 +123,8 @@ module _ (f : SuperFields) (chosen : Chosen) (for : IsFor f chosen) (log : Log) 
   further m k away = let place : m + suc k ≡ (m + 1) + k = omega arith in subst (λ (j : ℕ). content_at (now log) j ≡ Some c → ⊥) place away
 
   -- those that are written didn't show the choice
-  outside_from : (number : ℕ) (others : List Bool) → ((k : ℕ) → k < length others → get_or others k false ≡ false → content_at (now log) (number + k) ≡ Some c → ⊥) → AreOutside (content_at (now log)) c number others
+  outside_from : (number : ℕ) (others : List Bool) → ((k : ℕ) → k < length others
+      → get_or others k false ≡ false → content_at (now log) (number + k) ≡ Some c → ⊥) → AreOutside (content_at (now log)) c number others
   outside_from number [] away = tt
   outside_from number (true ∷ others) away = outside_from (number + 1) others (λ k inside is. further number k (away (suc k) (omega arith) is))
   outside_from number (false ∷ others) away = (
@@ -122,21 +133,24 @@ module _ (f : SuperFields) (chosen : Chosen) (for : IsFor f chosen) (log : Log) 
   )
 
   outside : AreOutside (content_at (now log)) c 0 members
-  outside = outside_from 0 members (λ k inside is shown.
-      let place : 0 + k ≡ k = omega arith in
+  outside = outside_from 0 members (λ k inside is shown. let place : 0 + k ≡ k = omega arith in
       let member : get_or members k false ≡ true = (choice.members k (omega (arith, for.size))).1 (rw place at shown) in
       let both : false ≡ true = sym is ∙ member in cc)
 
   pub unless_misled : AreQuiet log → AtEach (KeepsUnlessMisled log c) log (repair_events f 0 members)
-  unless_misled quiet =
-      at_weaker (KeepsChoice (content_at (now log)) c) (KeepsUnlessMisled log c) (λ l keeps image left not. keeps image left.kept not) (repair_events f 0 members) log
-      (each_stays f c puts (content_at (now log)) choice.is 0 members log fits (record { shown = λ n below. inr refl; firm = λ n below is. quiet n below }) outside)
+  unless_misled quiet = at_weaker (KeepsChoice (content_at (now log)) c) (KeepsUnlessMisled log c) (λ l keeps image left not.
+      keeps image left.kept not) (repair_events f 0 members) log (each_stays f c puts (content_at (now log))
+      choice.is 0 members log fits (record { shown = λ n below. inr refl; firm = λ n below is. quiet n below }) outside)
 
-pub repairs_unless_misled : {T E : Type 0} → (f : SuperFields) (chosen : Chosen) (old new : Option Told) (result : Result T E) → IsFor f chosen → Adds (repair_events f 0 chosen.members) old new result → RepairsUnlessMisled chosen old new
+pub repairs_unless_misled : {T E : Type 0} → (f : SuperFields) (chosen : Chosen) (old new : Option Told) (result : Result T E)
+    → IsFor f chosen → Adds (repair_events f 0 chosen.members) old new result → RepairsUnlessMisled chosen old new
 repairs_unless_misled f chosen None new result for is = tt
-repairs_unless_misled f chosen (Some t) new result for is = λ c whole choice quiet. passes (KeepsUnlessMisled t.log c) (repair_events f 0 chosen.members) t new result (unless_misled f chosen for t.log c whole choice quiet) is
+repairs_unless_misled f chosen (Some t) new result for is = λ c whole choice quiet. passes
+    (KeepsUnlessMisled t.log c) (repair_events f 0 chosen.members) t new result (unless_misled f chosen for t.log c whole choice quiet) is
 
-pub ends_repaired : {T E : Type 0} → (f : SuperFields) (chosen : Chosen) (old new : Option Told) (result : Result T E) → IsFor f chosen → Adds (repair_events f 0 chosen.members) old new result → OnOk result (EndsRepaired chosen old new)
+pub ends_repaired : {T E : Type 0} → (f : SuperFields) (chosen : Chosen) (old new : Option Told) (result : Result T E)
+    → IsFor f chosen → Adds (repair_events f 0 chosen.members) old new result → OnOk result (EndsRepaired chosen old new)
 ends_repaired f chosen None new (Ok x) for is = tt
-ends_repaired f chosen (Some t) new (Ok x) for is = λ c whole choice. tells_after (repair_events f 0 chosen.members) t new (λ log. AreEqual (now log) c) is (equal f chosen for t.log c whole choice)
+ends_repaired f chosen (Some t) new (Ok x) for is = λ c whole choice.
+    tells_after (repair_events f 0 chosen.members) t new (λ log. AreEqual (now log) c) is (equal f chosen for t.log c whole choice)
 ends_repaired f chosen old new (Err e) for is = tt

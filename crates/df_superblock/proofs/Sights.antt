@@ -8,7 +8,8 @@ pub seen_same : (one two : Image) (n : ℕ) → one n ≡ two n → content_at o
 unfolding copy_at
 seen_same one two n same = ap (λ (bytes : List ℕ). content_in_copy (if_here n (copy_in bytes))) same
 
-pub seen_apart : (at : ℕ) (bytes : List ℕ) (image : Image) (n : ℕ) → covers at bytes n ≡ false → content_at (written at bytes image) n ≡ content_at image n
+pub seen_apart : (at : ℕ) (bytes : List ℕ) (image : Image) (n : ℕ)
+    → covers at bytes n ≡ false → content_at (written at bytes image) n ≡ content_at image n
 seen_apart at bytes image n out = seen_same (written at bytes image) image n (written_else at bytes image n out)
 
 -- ---- a write of one copy
@@ -18,7 +19,8 @@ pub record PutsCopy (n : ℕ) (bytes : List ℕ) (c : Content) : Type 0 where
   pub shows : (image : Image) → content_at (written n bytes image) n ≡ Some c
   pub alone : (m : ℕ) → (m ≡ n → ⊥) → covers n bytes m ≡ false
 
-pub loose_wrote : (log : Log) (k n : ℕ) (bytes : List ℕ) (e : Content) → PutsCopy k bytes e → (n ≡ k → ⊥) → loose log n ≡ false → loose (add (Write k bytes) log) n ≡ false
+pub loose_wrote : (log : Log) (k n : ℕ) (bytes : List ℕ) (e : Content)
+    → PutsCopy k bytes e → (n ≡ k → ⊥) → loose log n ≡ false → loose (add (Write k bytes) log) n ≡ false
 loose_wrote log k n bytes e put away firm = λ i. put.alone n away i || firm i
 
 -- ---- what a stop leaves

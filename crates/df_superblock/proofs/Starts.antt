@@ -63,8 +63,10 @@ low : (a : Content) → a ≡ first → rank_of a < rank_of again
 low a same = omega (arith, ap rank_of same)
 
 -- copies 2 and 3 show the first content, and copies 0 and 1 don't agree on another
-chosen_first : (image : Units) → image (CopyPlace 2) ≡ Some (CopyUnit first) → image (CopyPlace 3) ≡ Some (CopyUnit first) → ((d : Content) → image (CopyPlace 0) ≡ Some (CopyUnit d) → image (CopyPlace 1) ≡ Some (CopyUnit d) → d ≡ first) → IsChosen image first
-chosen_first image two three pair = chosen_above image first (record { first = 2; second = 3; apart = omega arith; inside = omega arith; at_first = two; at_second = three }) (λ d a. inl (go d a))
+chosen_first : (image : Units) → image (CopyPlace 2) ≡ Some (CopyUnit first) → image (CopyPlace 3) ≡ Some (CopyUnit first)
+    → ((d : Content) → image (CopyPlace 0) ≡ Some (CopyUnit d) → image (CopyPlace 1) ≡ Some (CopyUnit d) → d ≡ first) → IsChosen image first
+chosen_first image two three pair = chosen_above image first
+    (record { first = 2; second = 3; apart = omega arith; inside = omega arith; at_first = two; at_second = three }) (λ d a. inl (go d a))
   where
     at : (d : Content) (n k : ℕ) → n ≡ k → image (CopyPlace n) ≡ Some (CopyUnit d) → image (CopyPlace k) ≡ Some (CopyUnit d)
     at d n k e shown = ap (λ (i : ℕ). image (CopyPlace i)) (sym e) ∙ shown
@@ -87,9 +89,12 @@ two_heads : (d : Content) → d ≡ third → d ≡ again → ⊥
 two_heads d a b = differ 1 0 (sym (ap (λ (c : Content). c.head) a) ∙ ap (λ (c : Content). c.head) b) (omega arith)
 
 -- an image as it usually is: copies 1 to 3 show the first content
-module _ (base : List Units) (image : Units) (x : Content) (next : IsNextContent first x) (zeroth : (image (CopyPlace 0) ≡ Some (CopyUnit x)) ⊎ (image (CopyPlace 0) ≡ Some (CopyUnit first)))
-    (one : image (CopyPlace 1) ≡ Some (CopyUnit first)) (two : image (CopyPlace 2) ≡ Some (CopyUnit first)) (three : image (CopyPlace 3) ≡ Some (CopyUnit first)) where
-  usual : (n : ℕ) (d : Content) → n < 4 → image (CopyPlace n) ≡ Some (CopyUnit d) → InImages base (CopyPlace n) (CopyUnit d) ⊎ ((d ≡ first) ⊎ ((n ≡ 0) × IsNextContent first d))
+module _ (base : List Units) (image : Units) (x : Content)
+    (next : IsNextContent first x) (zeroth : (image (CopyPlace 0) ≡ Some (CopyUnit x)) ⊎ (image (CopyPlace 0) ≡ Some (CopyUnit first)))
+    (one : image (CopyPlace 1) ≡ Some (CopyUnit first))
+    (two : image (CopyPlace 2) ≡ Some (CopyUnit first)) (three : image (CopyPlace 3) ≡ Some (CopyUnit first)) where
+  usual : (n : ℕ) (d : Content) → n < 4 → image (CopyPlace n) ≡ Some (CopyUnit d)
+      → InImages base (CopyPlace n) (CopyUnit d) ⊎ ((d ≡ first) ⊎ ((n ≡ 0) × IsNextContent first d))
   usual n d below shown = elim (four n below) [
     | inl is ↦ elim zeroth [
       | inl z ↦ inr (inr (is, rw (sym (content_of x d (sym z ∙ at 0 is))) at next))
@@ -106,10 +111,12 @@ module _ (base : List Units) (image : Units) (x : Content) (next : IsNextContent
   usual_chosen : IsChosen image first
   usual_chosen = chosen_first image two three (λ d a b. content_of first d (sym one ∙ b))
 
-torn_known : (n : ℕ) (d : Content) → n < 4 → torn (CopyPlace n) ≡ Some (CopyUnit d) → InImages (now log4 ∷ now log3 ∷ now log2 ∷ now log1 ∷ log0.start ∷ []) (CopyPlace n) (CopyUnit d) ⊎ ((d ≡ first) ⊎ ((n ≡ 0) × IsNextContent first d))
+torn_known : (n : ℕ) (d : Content) → n < 4 → torn (CopyPlace n) ≡ Some (CopyUnit d) → InImages (now log4
+    ∷ now log3 ∷ now log2 ∷ now log1 ∷ log0.start ∷ []) (CopyPlace n) (CopyUnit d) ⊎ ((d ≡ first) ⊎ ((n ≡ 0) × IsNextContent first d))
 torn_known n d below shown = elim (four n below) [
   | inl is ↦ inr (inr (is, rw ((content_of third d (at 0 is))) (inl (refl, refl))))
-  | inr (inl is) ↦ inl (inr (inr (inr (inr (inl (ap (λ (i : ℕ). log0.start (CopyPlace i)) is ∙ ap (λ (c : Content). Some (CopyUnit c)) (content_of d again (sym (at 1 is)))))))))
+  | inr (inl is) ↦ inl (inr (inr (inr (inr
+      (inl (ap (λ (i : ℕ). log0.start (CopyPlace i)) is ∙ ap (λ (c : Content). Some (CopyUnit c)) (content_of d again (sym (at 1 is)))))))))
   | inr (inr (inl is)) ↦ inr (inl (content_of first d (at 2 is)))
   | inr (inr (inr is)) ↦ inr (inl (content_of first d (at 3 is)))
 ]
@@ -140,7 +147,8 @@ grew = (
 
 bad_left : MayLeaveCopies (wrote (put 0 first) log5) bad
 bad_left n below firm = elim (four n below) [
-  | inl is ↦ absurd (let wet : loose (wrote (put 0 first) log5) (CopyPlace 0) ≡ false = ap (λ (i : ℕ). loose (wrote (put 0 first) log5) (CopyPlace i)) (sym is) ∙ firm in cc)
+  | inl is ↦ absurd (let wet : loose (wrote (put 0 first) log5) (CopyPlace 0) ≡ false = ap (λ (i : ℕ).
+      loose (wrote (put 0 first) log5) (CopyPlace i)) (sym is) ∙ firm in cc)
   | inr (inl is) ↦ rw is refl
   | inr (inr (inl is)) ↦ rw is refl
   | inr (inr (inr is)) ↦ rw is refl
@@ -158,7 +166,8 @@ bad_known n d below shown = elim (four n below) [
     at k e = ap (λ (i : ℕ). bad (CopyPlace i)) (sym e) ∙ shown
 
 bad_chosen : IsChosen bad again
-bad_chosen = chosen_above bad again (record { first = 0; second = 1; apart = omega arith; inside = omega arith; at_first = refl; at_second = refl }) (λ d a. go d a)
+bad_chosen = chosen_above bad
+    again (record { first = 0; second = 1; apart = omega arith; inside = omega arith; at_first = refl; at_second = refl }) (λ d a. go d a)
   where
     go : (d : Content) → Agree bad d → (d ≡ again) ⊎ (rank_of d < rank_of again)
     go d a = elim (four a.second a.inside) [

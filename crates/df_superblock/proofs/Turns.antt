@@ -49,8 +49,7 @@ module _ (copies : Copies) (old new : Content) (i : ℕ) (less : rank_of_copy ol
   ]
 
   is_old : (copies 1 ≡ Some new → ⊥) → IsChosenContent copies old
-  is_old not =
-      let less_two : i < 2 = early not in
+  is_old not = let less_two : i < 2 = early not in
       chosen_above copies old (record { first = 2; second = 3; apart = omega arith; inside = omega arith; at_first = around.behind 2 less_two (omega arith); at_second = around.behind 3 (omega arith) (omega arith) }) (λ d a. elim (one_of d a) [
         | inl same ↦ absurd (no_pair not less_two (rw same at a))
         | inr same ↦ inl same
@@ -62,15 +61,16 @@ pub record IsTurn (log : Log) (old new : Content) (i : ℕ) : Type 0 where
   pub around : AreAround (content_at (now log)) old new i
   pub firm : (n : ℕ) → (n ≡ i → ⊥) → n < 4 → loose log n ≡ false
 
-turn_left : (log : Log) (old new : Content) (i : ℕ) (image : Image) → IsTurn log old new i → Keeps log image → AreAround (content_at image) old new i
+turn_left : (log : Log) (old new : Content) (i : ℕ) (image : Image)
+    → IsTurn log old new i → Keeps log image → AreAround (content_at image) old new i
 turn_left log old new i image turn keeps = record {
   before = λ n less below. firm_shows log image n keeps (turn.firm n (λ e. omega arith) below) ∙ turn.around.before n less below;
   behind = λ n more below. firm_shows log image n keeps (turn.firm n (λ e. omega arith) below) ∙ turn.around.behind n more below;
 }
 
-either_chosen : (log : Log) (old new : Content) (i : ℕ) (image : Image) → rank_of_copy old < rank_of_copy new → IsTurn log old new i → Keeps log image → OfEither image old new (IsChosenContent (content_at image))
-either_chosen log old new i image less turn keeps =
-    let around = turn_left log old new i image turn keeps in
+either_chosen : (log : Log) (old new : Content) (i : ℕ) (image : Image) → rank_of_copy old < rank_of_copy new
+    → IsTurn log old new i → Keeps log image → OfEither image old new (IsChosenContent (content_at image))
+either_chosen log old new i image less turn keeps = let around = turn_left log old new i image turn keeps in
     elim (shows_content (content_at image 1) new) [
       | inl shown ↦ inl (shown, is_new (content_at image) old new i less around shown)
       | inr not ↦ inr (not, is_old (content_at image) old new i less around not)
@@ -84,26 +84,31 @@ spare_firm ((Write at bytes) ∷ since) es n spare firm = λ i. spare.0 i || spa
 spare_firm (Sync ∷ since) es n spare firm = refl
 spare_firm ((Stop cs) ∷ since) es n spare firm = absurd spare
 
-spare_shows : (start : Image) (since es : List Event) (n : ℕ) → Spare since n → content_at (now_of start (since ++ es)) n ≡ content_at (now_of start es) n
+spare_shows : (start : Image) (since es : List Event) (n : ℕ)
+    → Spare since n → content_at (now_of start (since ++ es)) n ≡ content_at (now_of start es) n
 spare_shows start [] es n spare = refl
-spare_shows start ((Write at bytes) ∷ since) es n spare = seen_apart at bytes (now_of start (since ++ es)) n spare.0 ∙ spare_shows start since es n spare.1
+spare_shows start ((Write at bytes) ∷ since) es n spare =
+    seen_apart at bytes (now_of start (since ++ es)) n spare.0 ∙ spare_shows start since es n spare.1
 spare_shows start (Sync ∷ since) es n spare = spare_shows start since es n spare
 spare_shows start ((Stop cs) ∷ since) es n spare = absurd spare
 
 -- a place that isn't written shows in each image left what it showed at first
-spared : (entry log : Log) (since : Extends log entry) (n : ℕ) (image : Image) → Spare since.0 n → loose entry n ≡ false → Keeps log image → content_at image n ≡ content_at (now entry) n
+spared : (entry log : Log) (since : Extends log entry) (n : ℕ) (image : Image)
+    → Spare since.0 n → loose entry n ≡ false → Keeps log image → content_at image n ≡ content_at (now entry) n
 spared entry log since n image spare firm keeps =
     firm_shows log image n keeps (ap (λ (es : List Event). loose_of es n) since.1 ∙ spare_firm since.0 entry.events n spare firm)
     ∙ ap (λ (es : List Event). content_at (now_of log.start es) n) since.1
     ∙ ap (λ (start : Image). content_at (now_of start (since.0 ++ entry.events)) n) since.2
     ∙ spare_shows entry.start since.0 entry.events n spare
 
-pub turn_moment : (entry log : Log) (old new : Content) (i : ℕ) → rank_of_copy old < rank_of_copy new → AreQuiet entry → AreEqual (now entry) old → IsTurn log old new i → IsOldOrNew entry old new log
+pub turn_moment : (entry log : Log) (old new : Content) (i : ℕ)
+    → rank_of_copy old < rank_of_copy new → AreQuiet entry → AreEqual (now entry) old → IsTurn log old new i → IsOldOrNew entry old new log
 turn_moment entry log old new i less quiet equal turn = record {
   left = λ image left. either_chosen log old new i image less turn left.kept;
-  first = λ since spare image left.
-      let shown : content_at image 1 ≡ Some old = spared entry log since 1 image spare (quiet 1 (omega arith)) left.kept ∙ equal 1 (omega arith) in
-      is_old (content_at image) old new i less (turn_left log old new i image turn left.kept) (λ both. omega (arith, ap rank_of_copy (same_copy (content_at image) 1 old new shown both)));
+  first = λ since spare image left. let shown : content_at image 1 ≡ Some old =
+      spared entry log since 1 image spare (quiet 1 (omega arith)) left.kept ∙ equal 1 (omega arith) in
+      is_old (content_at image) old new i less (turn_left log old new i image turn left.kept) (λ both.
+      omega (arith, ap rank_of_copy (same_copy (content_at image) 1 old new shown both)));
 }
 
 -- ---- from one turn to the next
@@ -146,17 +151,14 @@ module _ (log : Log) (old new : Content) (i : ℕ) (bytes : List ℕ) (put : Put
 -- ---- the eight events
 
 module _ (P : Log → Type 0) (At : Log → ℕ → Type 0) (bytes : ℕ → List ℕ) (here : (log : Log) (i : ℕ) → At log i → P log)
-    (wrote : (log : Log) (i : ℕ) → i < 4 → At log i → P (add (Write i (bytes i)) log)) (synced : (log : Log) (i : ℕ) → i < 4 → At log i → At (add Sync (add (Write i (bytes i)) log)) (i + 1)) where
+    (wrote : (log : Log) (i : ℕ) → i < 4 → At log i → P (add (Write i (bytes i)) log))
+    (synced : (log : Log) (i : ℕ) → i < 4 → At log i → At (add Sync (add (Write i (bytes i)) log)) (i + 1)) where
   abbrev one_more : ℕ → Log → Log
   one_more i log = add Sync (add (Write i (bytes i)) log)
 
-  pub each_turn : (log : Log) → At log 0 → AtEach P log (Write 0 (bytes 0) ∷ Sync ∷ Write 1 (bytes 1) ∷ Sync ∷ Write 2 (bytes 2) ∷ Sync ∷ Write 3 (bytes 3) ∷ Sync ∷ [])
-  each_turn log at =
-      let l1 : Log = one_more 0 log in
-      let l2 : Log = one_more 1 l1 in
-      let l3 : Log = one_more 2 l2 in
-      let at1 : At l1 1 = synced log 0 (omega arith) at in
-      let at2 : At l2 2 = synced l1 1 (omega arith) at1 in
-      let at3 : At l3 3 = synced l2 2 (omega arith) at2 in
-      let at4 : At (one_more 3 l3) 4 = synced l3 3 (omega arith) at3 in
+  pub each_turn : (log : Log) → At log 0
+      → AtEach P log (Write 0 (bytes 0) ∷ Sync ∷ Write 1 (bytes 1) ∷ Sync ∷ Write 2 (bytes 2) ∷ Sync ∷ Write 3 (bytes 3) ∷ Sync ∷ [])
+  each_turn log at = let l1 : Log = one_more 0 log in let l2 : Log = one_more 1 l1 in let l3 : Log = one_more 2 l2 in
+      let at1 : At l1 1 = synced log 0 (omega arith) at in let at2 : At l2 2 = synced l1 1 (omega arith) at1 in
+      let at3 : At l3 3 = synced l2 2 (omega arith) at2 in let at4 : At (one_more 3 l3) 4 = synced l3 3 (omega arith) at3 in
       (here log 0 at, (wrote log 0 (omega arith) at, (here l1 1 at1, (wrote l1 1 (omega arith) at1, (here l2 2 at2, (wrote l2 2 (omega arith) at2, (here l3 3 at3, (wrote l3 3 (omega arith) at3, here (one_more 3 l3) 4 at4))))))))

@@ -1,9 +1,8 @@
 -- What an opening finds over what a disk shows it finds over all that no command tells apart from it.
 use Rattle.std.{proofs.Common.{◌≡◌, inl, inr, ℕ, zero, suc, ◌+◌, ◌<◌, ◌≤◌, ◌%◌, List, [], ◌∷◌, ◌++◌, Option, Some, None, Result, refl, sym, ◌∙◌, ap, subst, arith}, specs.List.{range_with_len}}
-use Rattle.df_layout.specs.{declared.damage.Class.{Class}, declared.layout.Layout.{Layout}}
+use Rattle.{df_layout.specs.declared.{damage.Class.{Class}, layout.Layout.{Layout}}, df_rows.specs.Tables.{Table}}
 use Rattle.df_theory.specs.Units.{AnyUnit, BlockPlace, Message, Place, PreparePlace}
 use Rattle.df_model.specs.{Blocks.{entries, entry, sum_at}, Commands.{ReadBlock, ReadPrepare}, Memory.{Memory, prepare_sum}, Supply.{Shown, block_given, block_read, class_at, class_or, message_given, no_trailer, prepare_given}}
-use Rattle.df_rows.specs.Tables.{Table}
 use Rattle.df_session.specs.{Agreeing.{AgreeShown}, Leaving.{IsReadPlace}}
 use Rattle.df_table.specs.{declared.ending.Ending.{Ending}, Opening.{AreFollowed, ArePrepares, AreReadBlocks, AreTakenBlocks, BlockHurt, FindsOf, FindsTable, Found, OtherBlock, OtherClient, OtherPrepare, PrepareHurt}}
 
@@ -33,16 +32,19 @@ module _ (layout : Layout) (one other : Shown) (agree : AgreeShown layout one ot
   block_same : (a : ℕ) → IsReadPlace layout (BlockPlace a) → block_read one m (ReadBlock a) ≡ block_read other m (ReadBlock a)
   block_same a read =
       ap (λ (o : Option AnyUnit). no_trailer (block_given (sum_at a m.blocks.live) o (class_at one (BlockPlace a)))) (agree.units.block a)
-      ∙ ap (λ (c : Class). no_trailer (block_given (sum_at a m.blocks.live) (other.units (BlockPlace a)) c)) (class_same (BlockPlace a) read (agree.units.block a))
+      ∙ ap (λ (c : Class). no_trailer (block_given (sum_at a m.blocks.live) (other.units (BlockPlace a)) c))
+      (class_same (BlockPlace a) read (agree.units.block a))
 
-  prepare_same : (op : ℕ) → IsReadPlace layout (PreparePlace (op % m.layout.slots)) → message_given one m (ReadPrepare op) ≡ message_given other m (ReadPrepare op)
-  prepare_same op read =
-      let slot = op % m.layout.slots in
+  prepare_same : (op : ℕ) → IsReadPlace layout (PreparePlace (op % m.layout.slots))
+      → message_given one m (ReadPrepare op) ≡ message_given other m (ReadPrepare op)
+  prepare_same op read = let slot = op % m.layout.slots in
       ap (λ (o : Option AnyUnit). prepare_given (prepare_sum m op) o (class_at one (PreparePlace slot))) (agree.units.prepare slot)
-      ∙ ap (λ (c : Class). prepare_given (prepare_sum m op) (other.units (PreparePlace slot)) c) (class_same (PreparePlace slot) read (agree.units.prepare slot))
+      ∙ ap (λ (c : Class).
+      prepare_given (prepare_sum m op) (other.units (PreparePlace slot)) c) (class_same (PreparePlace slot) read (agree.units.prepare slot))
 
   module _ (slots : (op : ℕ) → IsReadPlace layout (PreparePlace (op % m.layout.slots))) (inside : AreInside layout m.blocks.live) where
-    read_same : (xs : List (ℕ × ℕ)) (bodies : List (List ℕ)) → AreInside layout xs → AreReadBlocks one m xs bodies → AreReadBlocks other m xs bodies
+    read_same : (xs : List (ℕ × ℕ)) (bodies : List (List ℕ))
+        → AreInside layout xs → AreReadBlocks one m xs bodies → AreReadBlocks other m xs bodies
     read_same [] [] all are = tt
     read_same [] (body ∷ bodies) all are = absurd are
     read_same (x ∷ xs) [] all are = absurd are
@@ -81,10 +83,14 @@ module _ (layout : Layout) (one other : Shown) (agree : AgreeShown layout one ot
 
     finds_same : (r : Result Table Ending) → FindsTable layout one m r → FindsTable layout other m r
     finds_same r (OtherClient place is none) = OtherClient place is none
-    finds_same r (BlockHurt x rest t class taken hurt) = BlockHurt x rest t class (taken_same (x ∷ rest) t taken) (sym (block_same x.0 (next_inside x rest t taken)) ∙ hurt)
-    finds_same r (OtherBlock x rest t b taken read norows) = OtherBlock x rest t b (taken_same (x ∷ rest) t taken) (sym (block_same x.0 (next_inside x rest t taken)) ∙ read) norows
-    finds_same r (PrepareHurt op t class are less hurt) = PrepareHurt op t class (followed_same op t are) less (sym (prepare_same (op + 1) (slots (op + 1))) ∙ hurt)
-    finds_same r (OtherPrepare op t p are less read none) = OtherPrepare op t p (followed_same op t are) less (sym (prepare_same (op + 1) (slots (op + 1))) ∙ read) none
+    finds_same r (BlockHurt x rest t class taken hurt) =
+        BlockHurt x rest t class (taken_same (x ∷ rest) t taken) (sym (block_same x.0 (next_inside x rest t taken)) ∙ hurt)
+    finds_same r (OtherBlock x rest t b taken read norows) =
+        OtherBlock x rest t b (taken_same (x ∷ rest) t taken) (sym (block_same x.0 (next_inside x rest t taken)) ∙ read) norows
+    finds_same r (PrepareHurt op t class are less hurt) =
+        PrepareHurt op t class (followed_same op t are) less (sym (prepare_same (op + 1) (slots (op + 1))) ∙ hurt)
+    finds_same r (OtherPrepare op t p are less read none) =
+        OtherPrepare op t p (followed_same op t are) less (sym (prepare_same (op + 1) (slots (op + 1))) ∙ read) none
     finds_same r (Found t are) = Found t (followed_same m.head t are)
 
     pub finds_of_same : (r : Result Table Ending) → FindsOf layout one m r → FindsOf layout other m r
@@ -92,10 +98,13 @@ module _ (layout : Layout) (one other : Shown) (agree : AgreeShown layout one ot
     finds_of_same r (inr finds) = inr (finds_same r finds)
 
 -- the entries of a map over the grid's addresses are inside
-entry_inside : (layout : Layout) (a : ℕ) (o : Option ℕ) (rest : List (ℕ × ℕ)) → IsReadPlace layout (BlockPlace a) → AreInside layout rest → AreInside layout (entry a o rest)
+entry_inside : (layout : Layout) (a : ℕ) (o : Option ℕ) (rest : List (ℕ × ℕ))
+    → IsReadPlace layout (BlockPlace a) → AreInside layout rest → AreInside layout (entry a o rest)
 entry_inside layout a None rest here all = all
 entry_inside layout a (Some c) rest here all = (here, all)
 
-pub entries_inside : (layout : Layout) (f : ℕ → Option ℕ) (s n : ℕ) → ((a : ℕ) → s ≤ a → a < s + n → IsReadPlace layout (BlockPlace a)) → AreInside layout (entries f (range_with_len s n))
+pub entries_inside : (layout : Layout) (f : ℕ → Option ℕ) (s n : ℕ)
+    → ((a : ℕ) → s ≤ a → a < s + n → IsReadPlace layout (BlockPlace a)) → AreInside layout (entries f (range_with_len s n))
 entries_inside layout f s zero each = tt
-entries_inside layout f s (suc n) each = entry_inside layout s (f s) (entries f (range_with_len (s + 1) n)) (each s (omega arith) (omega arith)) (entries_inside layout f (s + 1) n (λ a from to. each a (omega (arith, from)) (omega (arith, to))))
+entries_inside layout f s (suc n) each = entry_inside layout s (f s) (entries f (range_with_len (s + 1) n))
+    (each s (omega arith) (omega arith)) (entries_inside layout f (s + 1) n (λ a from to. each a (omega (arith, from)) (omega (arith, to))))

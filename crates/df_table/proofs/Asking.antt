@@ -1,7 +1,6 @@
 -- The commands of a line, and of an opening: what was asked for of them, and which puts and drops are among them.
 use Rattle.std.{proofs.{Common.{◌≡◌, ◌⊎◌, inl, inr, ℕ, zero, suc, Bool, true, false, if◌then◌else◌, List, [], ◌∷◌, ◌++◌, map, Option, Some, None, Ok, refl, sym, subst}, lemmas.List.Elements.{All-head, All-tail}}, specs.Prelude.{All, replicate}}
-use Rattle.df_disk.specs.Told.{Told}
-use Rattle.df_layout.specs.declared.layout.Layout.{Layout}
+use Rattle.{df_disk.specs.Told.{Told}, df_layout.specs.declared.layout.Layout.{Layout}}
 use Rattle.df_model.specs.{Commands.{Advance, Answer, Append, Begin, Command, Flush, ReadBlock, ReadPrepare, ReadReply, Recent, Release, Reply, Scrub, Stage, ToAppend, WriteBlock}, Memory.{Memory}}
 use Rattle.df_rows.specs.{declared.command.Command.{Command as Change}, declared.refusal.Refusal.{Refusal}, Answers.{refusal_of}, Commands.{IsCommand, Map, body_of}, Grammar.{Count, Drop, Get, Put, Said}, Lines.{accepted, asked_by_line, line_in, unless_refused}, Tables.{CanApply, Table}}
 use Rattle.df_rows.specs.declared.command.Command.TheVariants as commands
@@ -10,7 +9,8 @@ use Rattle.df_table.{specs.{declared.ending.Ending.{Ending}, Keeping.{AreChanges
 
 -- ---- what was made of commands is what they ask for
 
-asks_part : (cs : List Command) (xs : List Exchange) (failed : Option Act) (rest : List Command) → map command_in (acts_in xs ++ list_of failed) ++ rest ≡ cs → AreAccepted xs failed → Asks (Unit {0}) failed cs xs
+asks_part : (cs : List Command) (xs : List Exchange) (failed : Option Act) (rest : List Command)
+    → map command_in (acts_in xs ++ list_of failed) ++ rest ≡ cs → AreAccepted xs failed → Asks (Unit {0}) failed cs xs
 asks_part [] [] None rest is accepted = refl
 asks_part (c ∷ cs) [] None rest is accepted = (tt, tt)
 asks_part [] [] (Some a) rest is accepted = absurd (cc (is))
@@ -25,7 +25,8 @@ asks_part (c ∷ cs) (x ∷ xs) failed rest is accepted = (
   asks_part cs xs failed rest (let same : map command_in (acts_in xs ++ list_of failed) ++ rest ≡ cs = cc in same) accepted.1,
 )
 
-pub asks_ends : (cs : List Command) (s t : Replica) (old new : Option Told) (ending : Ending) → (e : EndIn cs s t old new ending) → Asks (Unit {0}) e.failed cs e.exchanges
+pub asks_ends : (cs : List Command) (s t : Replica) (old new : Option Told) (ending : Ending)
+    → (e : EndIn cs s t old new ending) → Asks (Unit {0}) e.failed cs e.exchanges
 asks_ends cs s t old new ending e = asks_part cs e.exchanges e.failed e.rest e.are e.accepted
 
 pub asks_made : (cs : List Command) (xs : List Exchange) → map command_in (acts_in xs) ≡ cs → All WasAccepted xs → Asks ⊥ None cs xs
@@ -78,19 +79,20 @@ next_has : (c : Command) (f : Option Act) → HasChange c → IsNext c f → Fai
 next_has c None has is = tt
 next_has c (Some a) has is = subst HasChange (sym is) has
 
-pub asked_have : (part : Type 0) (failed : Option Act) (cs : List Command) (xs : List Exchange) → Asks part failed cs xs → HaveChanges cs → CallsHave xs × FailHas failed
+pub asked_have : (part : Type 0) (failed : Option Act) (cs : List Command) (xs : List Exchange)
+    → Asks part failed cs xs → HaveChanges cs → CallsHave xs × FailHas failed
 asked_have part failed [] [] asks have = (tt, subst FailHas (sym asks) tt)
 asked_have part failed (c ∷ cs) [] asks have = (tt, next_has c failed have.0 asks.1)
 asked_have part failed [] (x ∷ xs) asks have = absurd asks
-asked_have part failed (c ∷ cs) (x ∷ xs) asks have =
-    let rest = asked_have part failed cs xs asks.2 have.1 in
+asked_have part failed (c ∷ cs) (x ∷ xs) asks have = let rest = asked_have part failed cs xs asks.2 have.1 in
     ((subst HasChange (sym asks.0) have.0, rest.0), rest.1)
 
 pub calls_have : (xs ys : List Exchange) → CallsHave xs → CallsHave ys → CallsHave (xs ++ ys)
 calls_have [] ys have rest = rest
 calls_have (x ∷ xs) ys have rest = (have.0, calls_have xs ys have.1 rest)
 
-appended_change : (client request : ℕ) (body : List ℕ) (x : Answer) → HasChange (Append client request body) → (some : List Change) × Changes (Append client request body) x some
+appended_change : (client request : ℕ) (body : List ℕ) (x : Answer)
+    → HasChange (Append client request body) → (some : List Change) × Changes (Append client request body) x some
 appended_change client request body (ToAppend (Ok done)) has = (has.0 ∷ [], (has.0, has.1, has.2, refl))
 appended_change client request body x has = ([], refl)
 
@@ -100,9 +102,7 @@ one_change c x has = ([], refl)
 
 pub changes_there : (xs : List Exchange) → CallsHave xs → (changes : List Change) × AreChanges xs changes
 changes_there [] have = ([], refl)
-changes_there (x ∷ xs) have =
-    let one = one_change x.act.command x.answer have.0 in
-    let rest = changes_there xs have.1 in
+changes_there (x ∷ xs) have = let one = one_change x.act.command x.answer have.0 in let rest = changes_there xs have.1 in
     (one.0 ++ rest.0, (one.0, rest.0, one.1, rest.1, refl))
 
 pub pending_there : (failed : Option Act) → FailHas failed → (pending : List Change) × IsPending failed pending
@@ -128,13 +128,11 @@ plain_map f each [] = tt
 plain_map f each (x ∷ xs) = ((each x).0, plain_map f each xs)
 
 pub opening_plain : (m : Memory) → ArePlain (opening m)
-opening_plain m =
-    plain_both (block_reads m) (prepare_reads m ++ replies m) (plain_map (λ x. ReadBlock x.0) (λ x. (tt, tt)) _)
+opening_plain m = plain_both (block_reads m) (prepare_reads m ++ replies m) (plain_map (λ x. ReadBlock x.0) (λ x. (tt, tt)) _)
     (plain_both (prepare_reads m) (replies m) (plain_map ReadPrepare (λ op. (tt, tt)) _) (plain_map (λ op. Reply op []) (λ op. (tt, tt)) _))
 
 pub opening_has : (m : Memory) → HaveChanges (opening m)
-opening_has m =
-    have_both (block_reads m) (prepare_reads m ++ replies m) (have_map (λ x. ReadBlock x.0) (λ x. tt) _)
+opening_has m = have_both (block_reads m) (prepare_reads m ++ replies m) (have_map (λ x. ReadBlock x.0) (λ x. tt) _)
     (have_both (prepare_reads m) (replies m) (have_map ReadPrepare (λ op. tt) _) (have_map (λ op. Reply op []) (λ op. tt) _))
 
 have_steps : (n : ℕ) → HaveChanges (replicate n Advance)
@@ -147,9 +145,11 @@ room_has layout m rows steps true =
     have_both (releases m) (writes layout rows ++ (Begin [] ∷ replicate steps Advance)) (have_map (λ x. Release x.0) (λ x. tt) _)
     (have_both (writes layout rows) (Begin [] ∷ replicate steps Advance) (have_map (WriteBlock 1) (λ x. tt) _) (tt, have_steps steps))
 
-pub line_has : (layout : Layout) (m : Memory) (rows : Map) (steps : ℕ) (cs : List Change) → AreFit cs → HaveChanges (line_commands layout m rows steps cs)
+pub line_has : (layout : Layout) (m : Memory) (rows : Map) (steps : ℕ) (cs : List Change)
+    → AreFit cs → HaveChanges (line_commands layout m rows steps cs)
 line_has layout m rows steps [] fit = tt
-line_has layout m rows steps (c ∷ more) fit = have_both (room_for layout m rows steps) (request m c) (room_has layout m rows steps _) ((c, fit.0, refl, refl), (tt, tt))
+line_has layout m rows steps (c ∷ more) fit =
+    have_both (room_for layout m rows steps) (request m c) (room_has layout m rows steps _) ((c, fit.0, refl, refl), (tt, tt))
 
 -- ---- what a line asks for
 

@@ -1,7 +1,6 @@
 -- No reason refuses the calls of a table's session, but that no op or no sequence is left.
 use Rattle.std.{proofs.Common.{◌≡◌, ◌⊎◌, inl, inr, ℕ, ◌+◌, ◌-◌, ◌^◌, ◌<◌, ◌≤◌, ◌==◌, ◌&&◌, ◌||◌, not, nat_le, nat_lt, Bool, true, false, if◌then◌else◌, List, [], ◌∷◌, ◌++◌, length, take, Option, Some, None, refl, sym, ap, subst, arith, length-append, ne_eqb, le-ltb, eq-eqb}, specs.List.{slice_get}}
-use Rattle.df_base.{specs.Fields.{spelled}, proofs.Laws.{length-spelled}}
-use Rattle.df_layout.specs.declared.layout.Layout.{Layout}
+use Rattle.{df_base.{specs.Fields.{spelled}, proofs.Laws.{length-spelled}}, df_layout.specs.declared.layout.Layout.{Layout}}
 use Rattle.df_theory.{specs.Units.{Session}, proofs.Laws.{tracks}}
 use Rattle.df_model.{specs.{Memory.{Memory, free_of}, Refusals.{begin_refusals, block_refusals, first_refusal, is_last_request, is_new, is_running, is_staged, last_op, next_request, reply_refusals, request_refusals, session_of_client}, Work.{Request}, declared.errors.AppendError.{AppendError}}, proofs.Laws.{pass_all}}
 use Rattle.df_model.specs.declared.errors.AppendError.TheVariants as append
@@ -24,7 +23,8 @@ last_one : {E : Type 0} (b : Bool) (e : E) → (first_refusal ((b, e) ∷ []) �
 last_one true e = inr refl
 last_one false e = inl refl
 
-but_last : {E : Type 0} (ts : List (Bool × E)) (b : Bool) (e : E) → AllPass ts → (first_refusal (ts ++ (b, e) ∷ []) ≡ None) ⊎ (first_refusal (ts ++ (b, e) ∷ []) ≡ Some e)
+but_last : {E : Type 0} (ts : List (Bool × E)) (b : Bool) (e : E)
+    → AllPass ts → (first_refusal (ts ++ (b, e) ∷ []) ≡ None) ⊎ (first_refusal (ts ++ (b, e) ∷ []) ≡ Some e)
 but_last [] b e all = last_one b e
 but_last (t ∷ ts) b e all = elim (but_last ts b e all.1) [
   | inl none ↦ inl (passed t.0 t.1 (first_refusal (ts ++ (b, e) ∷ [])) None all.0 none)
@@ -63,14 +63,15 @@ low_op (s ∷ ss) n low = low 0 s refl
 module _ (layout : Layout) (s : Replica) (ready : IsReadyReplica layout s) where
   -- the ops of all sessions are up to the head
   ops : (k : ℕ) (t : Session) → slice_get (memory s).sessions k ≡ Some t → t.op ≤ (memory s).head
-  ops = subst (λ (n : Memory). (k : ℕ) (t : Session) → slice_get n.sessions k ≡ Some t → t.op ≤ n.head) (sym ready.stands.1) (tracks _ _ ready.stands.0.view).below
+  ops = subst (λ (n : Memory). (k : ℕ) (t : Session)
+      → slice_get n.sessions k ≡ Some t → t.op ≤ n.head) (sym ready.stands.1) (tracks _ _ ready.stands.0.view).below
 
   answered : last_op (slice_get (memory s).sessions 0) ≤ (memory s).replies
   answered = let low = low_op (memory s).sessions (memory s).head ops in omega (arith, low, ready.own.answered)
 
-  tests : (body : List ℕ) → is_full (memory s) ≡ false → length body ≤ 64 → AllPass (take 8 (request_refusals (memory s) the_client (next_request (session_of_client the_client (memory s).sessions)) body))
-  tests body room short =
-      let o = session_of_client the_client (memory s).sessions in
+  tests : (body : List ℕ) → is_full (memory s) ≡ false → length body ≤ 64
+      → AllPass (take 8 (request_refusals (memory s) the_client (next_request (session_of_client the_client (memory s).sessions)) body))
+  tests body room short = let o = session_of_client the_client (memory s).sessions in
       let is = own_session (memory s).sessions ready.own.alone in
       let first = rw (sym is) at (room_test (memory s).sessions (memory s).layout.clients s.file.layout.clients_within.0) in
       let low = rw (sym is) at answered in (
@@ -78,25 +79,28 @@ module _ (layout : Layout) (s : Replica) (ready : IsReadyReplica layout s) where
         (le-ltb _ _ (omega (arith, short, s.file.layout.message_size_within.0)), (first, (repeated_test o (memory s).replies, (le-ltb _ _ low, (ap not (eq-eqb (next_request o) (next_request o) refl), (ne_eqb _ _ (λ same. omega (arith, same, ready.own.answered)), (room, tt))))))),
       )
 
-  pub may_append : (body : List ℕ) → is_full (memory s) ≡ false → length body ≤ 64 → MayAppendCommand s (next_request (session_of_client the_client (memory s).sessions)) body
-  may_append body room short =
-      let o = session_of_client the_client (memory s).sessions in
+  pub may_append : (body : List ℕ) → is_full (memory s) ≡ false
+      → length body ≤ 64 → MayAppendCommand s (next_request (session_of_client the_client (memory s).sessions)) body
+  may_append body room short = let o = session_of_client the_client (memory s).sessions in
       let asks = request_refusals (memory s) the_client (next_request o) body in
-      subst (λ (r : Option AppendError). (r ≡ None) ⊎ (r ≡ Some append.OpsSpent)) (sym (last_passed asks (is_staged (memory s)) (append.Staged (length (memory s).staged)) (ap (λ (l : List Request). nat_lt 0 (length l)) ready.own.unstaged)))
+      subst (λ (r : Option AppendError). (r ≡ None) ⊎ (r ≡ Some append.OpsSpent)) (sym (last_passed asks (is_staged (memory s))
+      (append.Staged (length (memory s).staged)) (ap (λ (l : List Request). nat_lt 0 (length l)) ready.own.unstaged)))
       (but_last (take 8 asks) (((memory s).head == 2 ^ 62) || nat_lt (2 ^ 62) (next_request o)) append.OpsSpent (tests body room short))
 
   -- the reply to it isn't refused
-  pub may_reply : (request : ℕ) (body : List ℕ) (op : ℕ) → op ≡ s.head + 1 → first_refusal (reply_refusals (memory (with_prepare_appended s (next_unit s the_client request body))) op []) ≡ None
-  may_reply request body op is =
-      pass_all (reply_refusals (memory (with_prepare_appended s (next_unit s the_client request body))) op []) (
-        ne_eqb s.replies (s.head + 1) (λ same. omega (arith, same, ready.own.answered)),
-        (ap not (eq-eqb op (s.replies + 1) (omega (arith, is, ready.own.answered))), (le-ltb _ _ (omega arith), tt)),
-      )
+  pub may_reply : (request : ℕ) (body : List ℕ) (op : ℕ) → op ≡ s.head + 1
+      → first_refusal (reply_refusals (memory (with_prepare_appended s (next_unit s the_client request body))) op []) ≡ None
+  may_reply request body op is = pass_all (reply_refusals (memory (with_prepare_appended s (next_unit s the_client request body))) op []) (
+    ne_eqb s.replies (s.head + 1) (λ same. omega (arith, same, ready.own.answered)),
+    (ap not (eq-eqb op (s.replies + 1) (omega (arith, is, ready.own.answered))), (le-ltb _ _ (omega arith), tt)),
+  )
 
 -- ---- a block
 
-pub may_write : (s : Replica) (body : List ℕ) → length body ≤ s.file.layout.block_size - 256 → 0 < length (free_of (memory s)) → first_refusal (block_refusals (memory s) 1 body) ≡ None
-may_write s body short free = pass_all (block_refusals (memory s) 1 body) (refl, (le-ltb _ _ short, (ne_eqb _ _ (λ same. omega (arith, same, free)), tt)))
+pub may_write : (s : Replica) (body : List ℕ) → length body ≤ s.file.layout.block_size - 256
+    → 0 < length (free_of (memory s)) → first_refusal (block_refusals (memory s) 1 body) ≡ None
+may_write s body short free =
+    pass_all (block_refusals (memory s) 1 body) (refl, (le-ltb _ _ short, (ne_eqb _ _ (λ same. omega (arith, same, free)), tt)))
 
 -- ---- the body of a command
 
@@ -107,21 +111,17 @@ short_body (Drop key) fits = omega (arith, length-spelled 16 key)
 -- ---- a checkpoint
 
 pub may_begin : (s : Replica) → (memory s).running ≡ None → needed s [] ≤ length (free_of (memory s)) → MayBegin s
-may_begin s idle free =
-    but_last
-    (take 3 (begin_refusals (memory s) (needed s []) []))
-    ((memory s).content.sequence == 2 ^ 62)
-    begin.SequenceSpent
-    (ap is_running idle, (refl, (le-ltb _ _ free, tt)))
+may_begin s idle free = but_last (take 3 (begin_refusals (memory s) (needed s []) [])) ((memory s).content.sequence == 2 ^ 62)
+    begin.SequenceSpent (ap is_running idle, (refl, (le-ltb _ _ free, tt)))
 
 -- ---- a command is stored
 
 -- with the client's next number and the command's body
 pub may_store : (layout : Layout) (s : Replica) → IsReadyReplica layout s → is_full (memory s) ≡ false → (c : Command) → IsCommand c → (n : ℕ) (body : List ℕ) → n ≡ next_request (session_of_client the_client (memory s).sessions) → body ≡ body_of c → MayAppendCommand s n body
-may_store layout s ready room c fits n body number spells =
-    subst (λ (k : ℕ). MayAppendCommand s k body) (sym number)
+may_store layout s ready room c fits n body number spells = subst (λ (k : ℕ). MayAppendCommand s k body) (sym number)
     (rw (sym spells) at (may_append layout s ready (body_of c) room (short_body c fits)))
 
 -- and the reply to it
-pub may_answer : (layout : Layout) (s t : Replica) → IsReadyReplica layout s → (n : ℕ) (body : List ℕ) (op : ℕ) → op ≡ s.head + 1 → t ≡ with_prepare_appended s (next_unit s the_client n body) → first_refusal (reply_refusals (memory t) op []) ≡ None
+pub may_answer : (layout : Layout) (s t : Replica) → IsReadyReplica layout s → (n : ℕ) (body : List ℕ) (op : ℕ)
+    → op ≡ s.head + 1 → t ≡ with_prepare_appended s (next_unit s the_client n body) → first_refusal (reply_refusals (memory t) op []) ≡ None
 may_answer layout s t ready n body op next behind = rw behind (may_reply layout s ready n body op next)

@@ -1,8 +1,6 @@
 -- Commands of a list that are made one after the other: those that were, and those to come.
 use Rattle.std.{proofs.Common.{◌≡◌, ℕ, suc, ◌+◌, ◌-◌, ◌<◌, ◌≤◌, map, arith, List, [], ◌∷◌, ◌++◌, Option, refl, sym, ◌∙◌, subst, append_assoc, append-nil}, specs.List.{range_with_len}}
-use Rattle.df_disk.specs.Told.{Told}
-use Rattle.df_model.specs.Commands.{Command}
-use Rattle.df_session.specs.Below.{State as Replica}
+use Rattle.{df_disk.specs.Told.{Told}, df_model.specs.Commands.{Command}, df_session.specs.Below.{State as Replica}}
 use Rattle.df_table.{specs.{declared.ending.Ending.{Ending}, Turns.{EndIn, MakeAll}}, proofs.Joined.{end_front, end_more, make_more, make_none}}
 
 -- of these commands all but the last ones were made
@@ -25,8 +23,7 @@ module _ (all some rest : List Command) (s t u : Replica) (old now new : Option 
 
   -- or they end it
   pub making_ends : (ending : Ending) → EndIn some t u now new ending → EndIn all s u old new ending
-  making_ends ending ends =
-      subst (λ (l : List Command). EndIn l s u old new ending) is.split
+  making_ends ending ends = subst (λ (l : List Command). EndIn l s u old new ending) is.split
       (end_more is.done (some ++ rest) s t u old now new is.makes ending (end_front some rest t u now new ending ends))
 
 -- none is left
@@ -35,7 +32,8 @@ all_making all s t old now is = subst (λ (l : List Command). MakeAll l s t old 
 
 -- ---- commands that are counted
 
-module _ (f : ℕ → Command) (all : List Command) (b h : ℕ) (less : b < h) (s t u : Replica) (old now new : Option Told) (is : IsMaking all (map f (range_with_len (b + 1) (h - b))) s t old now) where
+module _ (f : ℕ → Command) (all : List Command) (b h : ℕ) (less : b < h)
+    (s t u : Replica) (old now new : Option Told) (is : IsMaking all (map f (range_with_len (b + 1) (h - b))) s t old now) where
   counted : IsMaking all ((f (b + 1) ∷ []) ++ map f (range_with_len (b + 1 + 1) (h - (b + 1)))) s t old now
   counted = rw one_more at is
     where
@@ -46,9 +44,11 @@ module _ (f : ℕ → Command) (all : List Command) (b h : ℕ) (less : b < h) (
   counted_more made = making_more all (f (b + 1) ∷ []) (map f (range_with_len (b + 1 + 1) (h - (b + 1)))) s t u old now new counted made
 
   pub counted_ends : (ending : Ending) → EndIn (f (b + 1) ∷ []) t u now new ending → EndIn all s u old new ending
-  counted_ends ending ends = making_ends all (f (b + 1) ∷ []) (map f (range_with_len (b + 1 + 1) (h - (b + 1)))) s t u old now new counted ending ends
+  counted_ends ending ends =
+      making_ends all (f (b + 1) ∷ []) (map f (range_with_len (b + 1 + 1) (h - (b + 1)))) s t u old now new counted ending ends
 
-pub all_counted : (f : ℕ → Command) (all : List Command) (b h : ℕ) (s t : Replica) (old now : Option Told) → h ≤ b → IsMaking all (map f (range_with_len (b + 1) (h - b))) s t old now → MakeAll all s t old now
+pub all_counted : (f : ℕ → Command) (all : List Command) (b h : ℕ) (s t : Replica) (old now : Option Told)
+    → h ≤ b → IsMaking all (map f (range_with_len (b + 1) (h - b))) s t old now → MakeAll all s t old now
 all_counted f all b h s t old now past is = all_making all s t old now (rw (none b h past) at is)
   where
     none : (b h : ℕ) → h ≤ b → h - b ≡ 0

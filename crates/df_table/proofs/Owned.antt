@@ -1,11 +1,10 @@
 -- Of each view that the calls of a table's session leave all sessions are the client's.
 use Rattle.std.{proofs.Common.{◌≡◌, inl, inr, ℕ, zero, suc, ◌==◌, Bool, true, false, if◌then◌else◌, List, [], ◌∷◌, ◌++◌, drop, Option, Some, None, refl, sym, ◌∙◌, subst, eqb-true}, specs.List.{slice_get}}
 use Rattle.df_base.{specs.{Image.{Image}, Log.{IsLeft, Log, Sync}, Moments.{EachMoment, Extends}}, proofs.Laws.{one_some, weaker}}
-use Rattle.df_disk.specs.Told.{Told, did}
+use Rattle.{df_disk.specs.Told.{Told, did}, df_table.specs.{Keeping.{AreClients, IsClients}, Policy.{the_client}}}
 use Rattle.df_theory.specs.{Device.{NoChanceOf}, Holds.{Held, Stands}, Next.{IsSameBare}, Sessions.{noted, session_of_header, sessions_after}, Units.{Header, Message, Parts, Session}, View.{View}}
 use Rattle.df_model.{specs.{After.{with_verdict}, Change.{Appends, Begins, Change, Checks, Ends, LetsGo, Lives, One, Replies, Staged, Stages, Stays, TourEnds, Writes}, Commands.{Command, Given, supplied_sum, supplied_verdict}, Making.{prepare_of}, Memory.{memory_of}, Work.{Running, Work, kept}, declared.answers.Verdict.{Verdict}, declared.answers.Verdict.TheVariants.{Failing, Sound}}, proofs.Laws.{one_thing_law}}
 use Rattle.df_session.specs.{Begun.{begun_work}, Below.{DataFile, shape, spelling}, Keeping.{KeepsFile}, Links.{list_of}, Serving.{Whole, format, next}, Session.{Act, Exchange, HasView, HoldsSome, IsMidway, acts_in}}
-use Rattle.df_table.specs.{Keeping.{AreClients, IsClients}, Policy.{the_client}}
 
 -- ---- sessions and prepares
 
@@ -40,15 +39,14 @@ noted_mine : (h : Header) (ss : List Session) → AllOwn (noted h ss) → (h.cli
 noted_mine h [] own = (own.0, tt)
 noted_mine h (s ∷ ss) own = go (λ all. noted_mine h ss all) (s.client == h.client) refl own
   where
-    go : (AllOwn (noted h ss) → (h.client ≡ the_client) × AllOwn ss) → (b : Bool) → (s.client == h.client) ≡ b → AllOwn (if b then session_of_header h ∷ ss else s ∷ noted h ss) → (h.client ≡ the_client) × AllOwn (s ∷ ss)
+    go : (AllOwn (noted h ss) → (h.client ≡ the_client) × AllOwn ss) → (b : Bool) → (s.client == h.client) ≡ b
+        → AllOwn (if b then session_of_header h ∷ ss else s ∷ noted h ss) → (h.client ≡ the_client) × AllOwn (s ∷ ss)
     go more true same all = (all.0, (eqb-true s.client h.client same ∙ all.0, all.1))
     go more false other all = let rest = more all.1 in (rest.0, (all.0, rest.1))
 
 pub after_mine : (ps : List Message) (ss : List Session) → AllOwn (sessions_after ss ps) → AllOwn ss × AllFrom ps
 after_mine [] ss own = (own, tt)
-after_mine (p ∷ ps) ss own =
-    let rest = after_mine ps (noted p.header ss) own in
-    let one = noted_mine p.header ss rest.0 in
+after_mine (p ∷ ps) ss own = let rest = after_mine ps (noted p.header ss) own in let one = noted_mine p.header ss rest.0 in
     (one.1, (one.0, rest.1))
 
 -- all are, where each is
@@ -89,16 +87,19 @@ module _ (file : DataFile) where
   checked_own w a Sound own = record { view = own.view; captured = own.captured }
   checked_own w a (Failing class) own = record { view = own.view; captured = own.captured }
 
-  changed_own : (w : Work) (given : Given) (c : Command) (u : Work) → IsClients c → OwnWork w → Change (shape file) (spelling file) w given c u → OwnWork u
+  changed_own : (w : Work) (given : Given) (c : Command) (u : Work)
+      → IsClients c → OwnWork w → Change (shape file) (spelling file) w given c u → OwnWork u
   changed_own w given c u has own (Stays _ idle) = own
   changed_own w given c u has own (Appends _ ps (One client request body none staged)) =
       record { view = record { parts = own.view.parts; tail = more_from w.view.tail (prepare_of (memory_of (shape file) (spelling file) w) (supplied_sum given) client request body) own.view.tail has }; captured = own.captured }
-  changed_own w given c u has own (Replies op body none) = record { view = record { parts = own.view.parts; tail = own.view.tail }; captured = own.captured }
+  changed_own w given c u has own (Replies op body none) =
+      record { view = record { parts = own.view.parts; tail = own.view.tail }; captured = own.captured }
   changed_own w given c u has own (Lives kind body none) = record { view = own.view; captured = own.captured }
   changed_own w given c u has own (LetsGo address none) = record { view = own.view; captured = own.captured }
   changed_own w given c u has own (Begins root none) =
       record { view = own.view; captured = λ r is. rw (← (unsome _ r is)) (after_own w.view.tail w.view.checkpoint.parts.sessions own.view.parts own.view.tail) }
-  changed_own w given c u has own (Writes r a more running left) = record { view = own.view; captured = λ q at. rw (← (unsome _ q at)) (own.captured r running) }
+  changed_own w given c u has own (Writes r a more running left) =
+      record { view = own.view; captured = λ q at. rw (← (unsome _ q at)) (own.captured r running) }
   changed_own w given c u has own (Ends r running left) =
       record { view = record { parts = own.captured r running; tail = drop_from _ w.view.tail own.view.tail }; captured = λ q at. absurd (let none : None ≡ Some q = at in cc) }
   changed_own w given c u has own (Appends _ ps (Staged none)) = absurd has
@@ -128,7 +129,8 @@ module _ (file : DataFile) where
   pub some_seen : (acts : List Act) (w : Work) (image : Image) → AreClients acts → OwnWork w → HoldsSome file Whole w acts image → Seen image
   some_seen [] w image have own has = view_seen w image own has
   some_seen (a ∷ acts) w image have own (inl has) = view_seen w image own has
-  some_seen (a ∷ acts) w image have own (inr more) = some_seen acts (next file w a.given a.command).0 image have.1 (next_own w a.given a.command have.0 own) more
+  some_seen (a ∷ acts) w image have own (inr more) =
+      some_seen acts (next file w a.given a.command).0 image have.1 (next_own w a.given a.command have.0 own) more
 
 -- ---- what is kept of calls
 
@@ -136,7 +138,8 @@ module _ (file : DataFile) where
 pub own_begun : (file : DataFile) (image : Image) (v : View) → OwnView v → OwnWork (begun_work file image v)
 own_begun file image v own = record { view = record { parts = own.parts; tail = own.tail }; captured = λ r none. absurd (cc (none)) }
 
-module _ (file : DataFile) (w : Work) (b : Told) (xs : List Exchange) (failed : Option Act) (end : Told) (keeps : KeepsFile file Whole w b xs failed (Some end)) where
+module _ (file : DataFile) (w : Work)
+    (b : Told) (xs : List Exchange) (failed : Option Act) (end : Told) (keeps : KeepsFile file Whole w b xs failed (Some end)) where
   same_end : keeps.after ≡ end
   same_end = one_some (Some end) keeps.after end keeps.is refl
 
@@ -146,5 +149,5 @@ module _ (file : DataFile) (w : Work) (b : Told) (xs : List Exchange) (failed : 
   -- at each moment, where they are the client's
   pub kept_seen : OwnWork w → AreClients (acts_in xs ++ list_of failed) → EachMoment (did Sync b).log end.log (EachSeen file)
   kept_seen own clients =
-      weaker (did Sync b).log end.log (IsMidway file Whole w (acts_in xs ++ list_of failed)) (EachSeen file) (λ log mid image left no. some_seen file (acts_in xs ++ list_of failed) w image clients own (mid.left image left no))
-      (rw same_end at keeps.moments)
+      weaker (did Sync b).log end.log (IsMidway file Whole w (acts_in xs ++ list_of failed)) (EachSeen file) (λ log mid image left no.
+      some_seen file (acts_in xs ++ list_of failed) w image clients own (mid.left image left no)) (rw same_end at keeps.moments)

@@ -1,13 +1,13 @@
 -- Blocks by their addresses: which are live, that a new one lies above them, and so stands last among them.
 use Rattle.std.{proofs.{Common.{◌≡◌, inl, inr, ℕ, zero, suc, ◌+◌, ◌<◌, ◌≤◌, ◌==◌, ◌||◌, Bool, true, false, if◌then◌else◌, List, [], ◌∷◌, ◌++◌, Option, Some, None, refl, sym, ◌∙◌, ap, arith, eq-eqb, eqb-true, ne_eqb}, lemmas.Bool.{cases_eq, cases_lt, eqb-false}}, specs.List.{range_with_len}}
-use Rattle.df_base.proofs.Laws.{no_some}
-use Rattle.df_theory.specs.{Shape.{Shape}, UnitLog.{UnitLog}}
+use Rattle.{df_base.proofs.Laws.{no_some}, df_theory.specs.{Shape.{Shape}, UnitLog.{UnitLog}}}
 use Rattle.df_model.{specs.{After.{with_live}, Blocks.{entries, entry, sum_at}, Laws.{IsLeastFree}, Work.{Work, is_captured, is_held, is_known, is_of}}, proofs.Laws.{live_held}}
 use Rattle.df_table.specs.Written.{WroteBodies, WroteBody}
 
 -- ---- lists of blocks
 
-pub wrote_more : (log : UnitLog) (references : List (ℕ × ℕ)) (bodies : List (List ℕ)) (x : ℕ × ℕ) (body : List ℕ) → WroteBodies log references bodies → WroteBody log x body → WroteBodies log (references ++ x ∷ []) (bodies ++ body ∷ [])
+pub wrote_more : (log : UnitLog) (references : List (ℕ × ℕ)) (bodies : List (List ℕ)) (x : ℕ × ℕ) (body : List ℕ)
+    → WroteBodies log references bodies → WroteBody log x body → WroteBodies log (references ++ x ∷ []) (bodies ++ body ∷ [])
 wrote_more log [] [] x body all one = (one, tt)
 wrote_more log [] (b ∷ bodies) x body all one = absurd all
 wrote_more log (y ∷ references) [] x body all one = absurd all
@@ -19,7 +19,8 @@ one_some is = cc
 -- a map without an entry from an address on
 pub none_from : (f : ℕ → Option ℕ) (s n : ℕ) → ((y : ℕ) → s ≤ y → f y ≡ None) → entries f (range_with_len s n) ≡ []
 none_from f s zero none = refl
-none_from f s (suc n) none = ap (λ (o : Option ℕ). entry s o (entries f (range_with_len (s + 1) n))) (none s (omega arith)) ∙ none_from f (s + 1) n (λ y from. none y (omega (arith, from)))
+none_from f s (suc n) none = ap (λ (o : Option ℕ). entry s o (entries f (range_with_len (s + 1) n))) (none s (omega arith))
+    ∙ none_from f (s + 1) n (λ y from. none y (omega (arith, from)))
 
 entry_before : (s : ℕ) (o : Option ℕ) (rest : List (ℕ × ℕ)) (x : ℕ × ℕ) → entry s o (rest ++ x ∷ []) ≡ entry s o rest ++ x ∷ []
 entry_before s None rest x = refl
@@ -36,17 +37,19 @@ module _ (f : ℕ → Option ℕ) (a c : ℕ) where
   last_apart : (s : ℕ) → (s ≡ a → ⊥) → with_last s ≡ f s
   last_apart s apart = ap (λ (b : Bool). if b then Some c else f s) (ne_eqb s a apart)
 
-  pub entries_last : (s n : ℕ) → s ≤ a → a < s + n → ((y d : ℕ) → f y ≡ Some d → y < a) → entries with_last (range_with_len s n) ≡ entries f (range_with_len s n) ++ (a, c) ∷ []
+  pub entries_last : (s n : ℕ) → s ≤ a → a < s + n
+      → ((y d : ℕ) → f y ≡ Some d → y < a) → entries with_last (range_with_len s n) ≡ entries f (range_with_len s n) ++ (a, c) ∷ []
   entries_last s zero from to low = absurd (omega (arith, from, to))
   entries_last s (suc n) from to low = elim (cases_eq s a) [
-    | inl same ↦
-        let none : (y : ℕ) → a ≤ y → f y ≡ None = λ y above. no_some (f y) (λ d is. omega (arith, above, low y d is)) in
-        let rest : entries with_last (range_with_len (s + 1) n) ≡ [] = none_from with_last (s + 1) n (λ y above. last_apart y (λ is. omega (arith, is, same, above)) ∙ none y (omega (arith, same, above))) in
+    | inl same ↦ let none : (y : ℕ) → a ≤ y → f y ≡ None = λ y above. no_some (f y) (λ d is. omega (arith, above, low y d is)) in
+        let rest : entries with_last (range_with_len (s + 1) n) ≡ [] = none_from with_last (s + 1) n (λ y above.
+        last_apart y (λ is. omega (arith, is, same, above)) ∙ none y (omega (arith, same, above))) in
         let all : entries f (range_with_len s (suc n)) ≡ [] = none_from f s (suc n) (λ y above. none y (omega (arith, same, above))) in
-        ap (λ (o : Option ℕ). entry s o (entries with_last (range_with_len (s + 1) n))) (last_there s same) ∙ ap (λ (l : List (ℕ × ℕ)). (s, c) ∷ l) rest ∙ ap (λ (y : ℕ). (y, c) ∷ []) same ∙ sym (ap (λ (l : List (ℕ × ℕ)). l ++ (a, c) ∷ []) all)
-    | inr other ↦
-        ap (λ (o : Option ℕ). entry s o (entries with_last (range_with_len (s + 1) n))) (last_apart s other)
-        ∙ ap (entry s (f s)) (entries_last (s + 1) n (omega (arith, from, other)) (omega (arith, to)) low) ∙ entry_before s (f s) (entries f (range_with_len (s + 1) n)) (a, c)
+        ap (λ (o : Option ℕ). entry s o (entries with_last (range_with_len (s + 1) n))) (last_there s same) ∙ ap (λ (l : List (ℕ × ℕ)).
+        (s, c) ∷ l) rest ∙ ap (λ (y : ℕ). (y, c) ∷ []) same ∙ sym (ap (λ (l : List (ℕ × ℕ)). l ++ (a, c) ∷ []) all)
+    | inr other ↦ ap (λ (o : Option ℕ). entry s o (entries with_last (range_with_len (s + 1) n))) (last_apart s other)
+        ∙ ap (entry s (f s)) (entries_last (s + 1) n (omega (arith, from, other)) (omega (arith, to)) low)
+        ∙ entry_before s (f s) (entries f (range_with_len (s + 1) n)) (a, c)
   ]
 
 -- ---- addresses
@@ -60,7 +63,8 @@ held_case true others o sum held = refl
 held_case false others o sum held = held
 
 held_more : (w : Work) (a sum y : ℕ) → is_held w y ≡ true → is_held (with_live w a (Some sum)) y ≡ true
-held_more w a sum y held = held_case (y == a) (is_captured y w.running || (is_known (w.view.checkpoint.parts.references y) || is_of y w.view.checkpoint.chain)) (w.live y) sum held
+held_more w a sum y held = held_case (y == a)
+    (is_captured y w.running || (is_known (w.view.checkpoint.parts.references y) || is_of y w.view.checkpoint.chain)) (w.live y) sum held
 
 false_true : (b : Bool) → b ≡ false → b ≡ true → ⊥
 false_true b is_false is_true = let apart : false ≡ true = sym is_false ∙ is_true in cc

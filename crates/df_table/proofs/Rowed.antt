@@ -1,9 +1,8 @@
 -- A table that stands in blocks has no more rows than its layout allows, each of which fits, and so it fits its blocks.
 use Rattle.std.{proofs.{Common.{◌≡◌, ◌≤◌, ◌∙◌, ◌+◌, ℕ, zero, suc, List, [], ◌∷◌, length, ap, arith, refl, subst, sym}, lemmas.List.{length-map}}, specs.{FinMap.{len-entries}, Fork.{slice_chunk}, Prelude.{All}, List.{range_with_len}}}
 use Rattle.std.specs.FinMap as maps
-use Rattle.df_layout.specs.declared.layout.Layout.{Layout}
+use Rattle.{df_layout.specs.declared.layout.Layout.{Layout}, df_session.specs.Below.{DataFile}}
 use Rattle.df_rows.{specs.{declared.command.Command.{Command}, Blocks.{TakesAll, bodies_of, chunks_of}, Limits.{block_count, blocks_of_table, most_rows, rows_in_block}, Rows.{Entry, IsEntry, rows_of}, Tables.{Table, with_command, with_commands, with_rows}}, proofs.Laws.{AreRowsFit, command_fits, none_fits, rows_fit, tables_fit}}
-use Rattle.df_session.specs.Below.{DataFile}
 use Rattle.df_theory.specs.{UnitLog.{UnitLog}, Units.{Message}, View.{View}}
 use Rattle.df_table.{specs.{Table.{FollowAll, empty_table}, Written.{IsTableIn}}, proofs.{Behind.{HasFew}, ServedLines.{empty_few, follow_few, takes_few}}}
 
@@ -30,16 +29,16 @@ range_count s (suc n) = ap suc (range_count (s + 1) n)
 
 -- as many blocks as its rows take
 count_bodies : (per : ℕ) (es : List Entry) → length (bodies_of per es) ≡ block_count per (length es)
-count_bodies per es = length-map (chunks_of per es) rows_of ∙ length-map (range_with_len 0 (block_count per (length es))) (λ k. slice_chunk es per k) ∙ range_count 0 (block_count per (length es))
+count_bodies per es = length-map (chunks_of per es) rows_of
+    ∙ length-map (range_with_len 0 (block_count per (length es))) (λ k. slice_chunk es per k) ∙ range_count 0 (block_count per (length es))
 
 pub table_bounds : (file : DataFile) (log : UnitLog) (v : View) (t : Table) → IsTableIn file log v t → HasBounds file.layout t
-table_bounds file log v t is =
-    let most = most_rows file.layout in
-    let few = rw (sym is.is) at (follow_few most is.base v.tail is.commands is.tail (takes_few most (empty_table file.layout) is.base is.bodies is.rows (empty_few file.layout))) in
-    let fits = tables_fit file.layout (maps.len t.rows) few.few in
-    record {
+table_bounds file log v t is = let most = most_rows file.layout in let few = rw (sym is.is) at (follow_few
+    most is.base v.tail is.commands is.tail (takes_few most (empty_table file.layout) is.base is.bodies is.rows (empty_few file.layout))) in
+    let fits = tables_fit file.layout (maps.len t.rows) few.few in record {
       max = few.max_is;
       few = omega (arith, few.few, few.max_is);
-      fit = rw (sym is.is) at (follow_fit is.base v.tail is.commands is.tail (takes_fit (empty_table file.layout) is.base is.bodies is.rows none_fits));
+      fit = rw (sym is.is) at
+          (follow_fit is.base v.tail is.commands is.tail (takes_fit (empty_table file.layout) is.base is.bodies is.rows none_fits));
       blocks = omega (arith, fits.blocks, count_bodies (rows_in_block file.layout) (maps.entries t.rows), ap (block_count (rows_in_block file.layout)) (len-entries t.rows));
     }

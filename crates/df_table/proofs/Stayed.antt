@@ -1,8 +1,7 @@
 -- What a command makes of the view: no other one than an append or a checkpoint's last step changes its checkpoint or its tail.
 use Rattle.std.proofs.Common.{◌≡◌, ◌≤◌, ◌-◌, ℕ, zero, suc, List, [], ◌∷◌, length, drop, Option, Some, None, refl, arith}
 use Rattle.df_model.{specs.{After.{outcome, with_live, with_running, with_verdict, begun}, Change.{Appends, Change, Checks, Ends, One, Staged, Writes}, Commands.{Advance, Append, Begin, Command, Flush, Given, Release, ToBegin, ToRelease, ToWriteBlock, WriteBlock, supplied_sum, supplied_verdict}, Making.{needed_of, next_address}, Memory.{Memory, memory_of}, Refusals.{begin_refusals, block_refusals, first_refusal, release_refusals}, Work.{Work}, declared.errors.BeginError.{BeginError}, declared.errors.BlockError.{BlockError}, declared.errors.NotLive.{NotLive}, declared.answers.Verdict.{Verdict}, declared.answers.Verdict.TheVariants.{Failing, Sound}}, proofs.Laws.{one_thing_law}}
-use Rattle.df_session.specs.{Below.{DataFile, shape, spelling}, Serving.{next}}
-use Rattle.df_theory.specs.{Units.{Message}, View.{View, head}}
+use Rattle.{df_session.specs.{Below.{DataFile, shape, spelling}, Serving.{next}}, df_theory.specs.{Units.{Message}, View.{View, head}}}
 use Rattle.df_table.specs.Turns.{IsAccepted}
 
 -- ---- the view stays
@@ -39,27 +38,34 @@ module _ (file : DataFile) (w : Work) (given : Given) where
 
   -- ---- what was accepted was done
 
-  pub released : (address : ℕ) → IsAccepted (next file w given (Release address)).1 → (next file w given (Release address)).0 ≡ with_live w address None
+  pub released : (address : ℕ)
+      → IsAccepted (next file w given (Release address)).1 → (next file w given (Release address)).0 ≡ with_live w address None
   released address accepted = go (first_refusal (release_refusals m address)) accepted
     where
-      go : (o : Option NotLive) → IsAccepted (ToRelease (outcome {A = Unit {0}} o w (with_live w address None) tt).1) → (outcome {A = Unit {0}} o w (with_live w address None) tt).0 ≡ with_live w address None
+      go : (o : Option NotLive) → IsAccepted (ToRelease (outcome {A = Unit {0}} o w (with_live w address None) tt).1)
+          → (outcome {A = Unit {0}} o w (with_live w address None) tt).0 ≡ with_live w address None
       go None fine = refl
       go (Some e) refused = absurd refused
 
-  pub wrote : (body : List ℕ) → IsAccepted (next file w given (WriteBlock 1 body)).1
-      → (first_refusal (block_refusals m 1 body) ≡ None) × ((next file w given (WriteBlock 1 body)).0 ≡ with_live w (next_address m) (Some (supplied_sum given)))
+  pub wrote : (body : List ℕ) → IsAccepted (next file w given (WriteBlock 1 body)).1 → (first_refusal (block_refusals m 1 body) ≡ None)
+      × ((next file w given (WriteBlock 1 body)).0 ≡ with_live w (next_address m) (Some (supplied_sum given)))
   wrote body accepted = go (first_refusal (block_refusals m 1 body)) refl accepted
     where
-      go : (o : Option BlockError) → first_refusal (block_refusals m 1 body) ≡ o → IsAccepted (ToWriteBlock (outcome {A = ℕ × ℕ} o w (with_live w (next_address m) (Some (supplied_sum given))) (next_address m, supplied_sum given)).1)
-          → (first_refusal (block_refusals m 1 body) ≡ None) × ((outcome {A = ℕ × ℕ} o w (with_live w (next_address m) (Some (supplied_sum given))) (next_address m, supplied_sum given)).0 ≡ with_live w (next_address m) (Some (supplied_sum given)))
+      go : (o : Option BlockError) → first_refusal (block_refusals m 1 body) ≡ o → IsAccepted (ToWriteBlock
+          (outcome {A = ℕ × ℕ} o w (with_live w (next_address m) (Some (supplied_sum given))) (next_address m, supplied_sum given)).1)
+          → (first_refusal (block_refusals m 1 body) ≡ None) × ((outcome {A = ℕ × ℕ} o w (with_live w (next_address m)
+          (Some (supplied_sum given))) (next_address m, supplied_sum given)).0 ≡ with_live w (next_address m) (Some (supplied_sum given)))
       go None is fine = (is, refl)
       go (Some e) is refused = absurd refused
 
-  pub began : (root : List ℕ) → IsAccepted (next file w given (Begin root)).1 → (next file w given (Begin root)).0 ≡ with_running w (Some (begun (shape file) (spelling file) w root))
+  pub began : (root : List ℕ) → IsAccepted (next file w given (Begin root)).1
+      → (next file w given (Begin root)).0 ≡ with_running w (Some (begun (shape file) (spelling file) w root))
   began root accepted = go (first_refusal (begin_refusals m (needed_of (spelling file) m root) root)) accepted
     where
-      go : (o : Option BeginError) → IsAccepted (ToBegin (outcome o w (with_running w (Some (begun (shape file) (spelling file) w root))) (needed_of (spelling file) m root)).1)
-          → (outcome o w (with_running w (Some (begun (shape file) (spelling file) w root))) (needed_of (spelling file) m root)).0 ≡ with_running w (Some (begun (shape file) (spelling file) w root))
+      go : (o : Option BeginError) → IsAccepted
+          (ToBegin (outcome o w (with_running w (Some (begun (shape file) (spelling file) w root))) (needed_of (spelling file) m root)).1)
+          → (outcome o w (with_running w (Some (begun (shape file) (spelling file) w root))) (needed_of (spelling file) m root)).0
+          ≡ with_running w (Some (begun (shape file) (spelling file) w root))
       go None fine = refl
       go (Some e) refused = absurd refused
 

@@ -1,6 +1,5 @@
 -- An image and a view have one table, and a file that was just made has the empty one.
-use Rattle.std.proofs.Common.{◌≡◌, ℕ, List, [], ◌∷◌, Some, None, refl, sym, ◌∙◌, ap, arith}
-use Rattle.df_model.specs.Blocks.{addresses, entries}
+use Rattle.{std.proofs.Common.{◌≡◌, ℕ, List, [], ◌∷◌, Some, None, refl, sym, ◌∙◌, ap, arith}, df_model.specs.Blocks.{addresses, entries}}
 use Rattle.df_rows.{specs.{declared.command.Command.{Command}, Blocks.{TakesAll}, Tables.{Table, with_command, with_commands}}, proofs.Laws.{one_command, one_table}}
 use Rattle.df_session.specs.Below.{DataFile, shape}
 use Rattle.df_theory.specs.{Units.{AnyUnit, Block, BlockPlace, BlockUnit, Message, Place}, View.{View}}
@@ -16,18 +15,21 @@ one_block : (b c : Block) → Some (BlockUnit b) ≡ Some (BlockUnit c) → b �
 one_block b c is = cc
 
 one_shown : (At : Place → AnyUnit → Type 0) → OneBlock At → (x : ℕ × ℕ) (a b : List ℕ) → HasBlockBody At x a → HasBlockBody At x b → a ≡ b
-one_shown At alone x a b one two = sym one.body_is ∙ ap (λ (c : Block). c.body) (alone x.0 one.block two.block one.there two.there (one.sum ∙ sym two.sum)) ∙ two.body_is
+one_shown At alone x a b one two =
+    sym one.body_is ∙ ap (λ (c : Block). c.body) (alone x.0 one.block two.block one.there two.there (one.sum ∙ sym two.sum)) ∙ two.body_is
 
 same_bodies : (a b : List ℕ) (one other : List (List ℕ)) → a ≡ b → one ≡ other → a ∷ one ≡ b ∷ other
 same_bodies a b one other same more = cc
 
-one_bodies : (At : Place → AnyUnit → Type 0) → OneBlock At → (references : List (ℕ × ℕ)) (one other : List (List ℕ)) → HaveBodies At references one → HaveBodies At references other → one ≡ other
+one_bodies : (At : Place → AnyUnit → Type 0) → OneBlock At
+    → (references : List (ℕ × ℕ)) (one other : List (List ℕ)) → HaveBodies At references one → HaveBodies At references other → one ≡ other
 one_bodies At alone [] [] [] first second = refl
 one_bodies At alone [] [] (b ∷ other) first second = absurd second
 one_bodies At alone [] (a ∷ one) other first second = absurd first
 one_bodies At alone (x ∷ more) [] other first second = absurd first
 one_bodies At alone (x ∷ more) (a ∷ one) [] first second = absurd second
-one_bodies At alone (x ∷ more) (a ∷ one) (b ∷ other) first second = same_bodies a b one other (one_shown At alone x a b first.0 second.0) (one_bodies At alone more one other first.1 second.1)
+one_bodies At alone (x ∷ more) (a ∷ one) (b ∷ other) first second =
+    same_bodies a b one other (one_shown At alone x a b first.0 second.0) (one_bodies At alone more one other first.1 second.1)
 
 -- ---- commands
 
@@ -46,7 +48,8 @@ one_list t (p ∷ ps) (c ∷ one) (d ∷ other) first second =
 
 -- ---- the table
 
-pub one_table_by : (At : Place → AnyUnit → Type 0) → OneBlock At → (file : DataFile) (v : View) (t u : Table) → IsTableBy At file v t → IsTableBy At file v u → t ≡ u
+pub one_table_by : (At : Place → AnyUnit → Type 0)
+    → OneBlock At → (file : DataFile) (v : View) (t u : Table) → IsTableBy At file v t → IsTableBy At file v u → t ≡ u
 one_table_by At alone file v t u one two =
     let bodies = one_bodies At alone (references_of file v) one.bodies two.bodies one.there two.there in
     let base = one_table (empty_table file.layout) one.base two.base one.bodies one.rows (rw (sym bodies) at two.rows) in
@@ -54,7 +57,8 @@ one_table_by At alone file v t u one two =
     one.is ∙ ap (λ (l : List Command). with_commands l one.base) commands ∙ ap (λ (b : Table). with_commands two.commands b) base ∙ sym two.is
 
 pub table_is_one : TableIsOne
-table_is_one file image v t u one two = one_table_by (λ place unit. image place ≡ Some unit) (λ a b c first second sum. one_block b c (sym first ∙ second)) file v t u one two
+table_is_one file image v t u one two =
+    one_table_by (λ place unit. image place ≡ Some unit) (λ a b c first second sum. one_block b c (sym first ∙ second)) file v t u one two
 
 -- nothing is referenced
 none_referenced : (xs : List ℕ) → entries (λ a. None) xs ≡ []

@@ -51,7 +51,8 @@ take_same a b is = elim (cases_eq a b) [
 -- ---- the slots
 
 -- what a ring shows at the slot of an op above the head is old, or nothing
-pub old_header : (b o : ℕ) (x : Option AnyUnit) → ((h : Header) → x ≡ Some (HeaderUnit h) → IsBelow b o h) → (seen_header b o x ≡ Old) ⊎ (seen_header b o x ≡ Nothing)
+pub old_header : (b o : ℕ) (x : Option AnyUnit)
+    → ((h : Header) → x ≡ Some (HeaderUnit h) → IsBelow b o h) → (seen_header b o x ≡ Old) ⊎ (seen_header b o x ≡ Nothing)
 old_header b o None low = inr refl
 old_header b o (Some (HeaderUnit h)) low = inl (seen_below b o h (low h refl))
 old_header b o (Some (CopyUnit c)) low = inr refl
@@ -59,7 +60,8 @@ old_header b o (Some (PrepareUnit p)) low = inr refl
 old_header b o (Some (ReplyUnit r)) low = inr refl
 old_header b o (Some (BlockUnit d)) low = inr refl
 
-pub old_prepare : (b o : ℕ) (x : Option AnyUnit) → ((p : Message) → x ≡ Some (PrepareUnit p) → IsBelow b o p.header) → (seen_prepare b o x ≡ Old) ⊎ (seen_prepare b o x ≡ Nothing)
+pub old_prepare : (b o : ℕ) (x : Option AnyUnit)
+    → ((p : Message) → x ≡ Some (PrepareUnit p) → IsBelow b o p.header) → (seen_prepare b o x ≡ Old) ⊎ (seen_prepare b o x ≡ Nothing)
 old_prepare b o None low = inr refl
 old_prepare b o (Some (PrepareUnit p)) low = inl (seen_below b o p.header (low p refl))
 old_prepare b o (Some (CopyUnit c)) low = inr refl
@@ -73,8 +75,8 @@ take_boot n image c p takes above = elim (cases_eq p.header.boot c.boot) [
   | inl same ↦ same
   | inr differs ↦
       let at : IsTake (case (seen_header c.boot p.header.op (image (HeaderPlace (p.header.op % n)))) (seen c.boot p.header.op p.header)) =
-      rw takes.shown at (takes.take above) in
-      absurd (take_old (seen_header c.boot p.header.op (image (HeaderPlace (p.header.op % n)))) (rw (seen_past c.boot p.header.op p.header refl differs) at at))
+      rw takes.shown at (takes.take above) in absurd (take_old (seen_header c.boot p.header.op (image (HeaderPlace (p.header.op % n))))
+      (rw (seen_past c.boot p.header.op p.header refl differs) at at))
 ]
 
 pub empty_case : (a b : Seen) → (a ≡ Old) ⊎ (a ≡ Nothing) → (b ≡ Old) ⊎ (b ≡ Nothing) → IsEmpty (case a b)
@@ -85,40 +87,35 @@ empty_case a b (inr is) (inr at) = subst (λ (s : Seen). IsEmpty (case s b)) (sy
 
 -- ---- an image whose units agree with a view
 
-module _ (sh : Shape) (image : Units) (v : View) (sound : Sound sh v) (all : (place : Place) (x : AnyUnit) → image place ≡ Some x → Agrees sh v place x) where
+module _ (sh : Shape)
+    (image : Units) (v : View) (sound : Sound sh v) (all : (place : Place) (x : AnyUnit) → image place ≡ Some x → Agrees sh v place x) where
   pub header_agrees : (s : ℕ) (x : Header) → image (HeaderPlace s) ≡ Some (HeaderUnit x) → AgreesHeader sh v s x
-  header_agrees s x is =
-      let a = all (HeaderPlace s) (HeaderUnit x) is in
-      let same : a.0 ≡ x = (let e = a.1 in cc) in
+  header_agrees s x is = let a = all (HeaderPlace s) (HeaderUnit x) is in let same : a.0 ≡ x = (let e = a.1 in cc) in
       subst (λ (y : Header). AgreesHeader sh v s y) same a.2
 
   pub prepare_agrees : (s : ℕ) (x : Message) → image (PreparePlace s) ≡ Some (PrepareUnit x) → AgreesPrepare sh v s x
-  prepare_agrees s x is =
-      let a = all (PreparePlace s) (PrepareUnit x) is in
-      let same : a.0 ≡ x = (let e = a.1 in cc) in
+  prepare_agrees s x is = let a = all (PreparePlace s) (PrepareUnit x) is in let same : a.0 ≡ x = (let e = a.1 in cc) in
       subst (λ (y : Message). AgreesPrepare sh v s y) same a.2
 
   pub reply_agrees : (k : ℕ) (x : Message) → image (ReplyPlace k) ≡ Some (ReplyUnit x) → AgreesReply v x
-  reply_agrees k x is =
-      let a = all (ReplyPlace k) (ReplyUnit x) is in
-      let same : a.0 ≡ x = (let e = a.1 in cc) in
+  reply_agrees k x is = let a = all (ReplyPlace k) (ReplyUnit x) is in let same : a.0 ≡ x = (let e = a.1 in cc) in
       subst (λ (y : Message). AgreesReply v y) same a.2
 
   -- the header beside a prepare of the tail
-  take_at : (p : Message) → In p v.tail → v.checkpoint.content.pin < p.header.op → (o : Option AnyUnit) → image (HeaderPlace (p.header.op % sh.layout.slots)) ≡ o → IsTake (case (seen_header (boot_of v) p.header.op o) (Current p.header.checksum))
+  take_at : (p : Message) → In p v.tail → v.checkpoint.content.pin < p.header.op → (o : Option AnyUnit) → image
+      (HeaderPlace (p.header.op % sh.layout.slots)) ≡ o → IsTake (case (seen_header (boot_of v) p.header.op o) (Current p.header.checksum))
   take_at p at above None is = tt
   take_at p at above (Some (CopyUnit c)) is = tt
   take_at p at above (Some (PrepareUnit q)) is = tt
   take_at p at above (Some (ReplyUnit r)) is = tt
   take_at p at above (Some (BlockUnit c)) is = tt
-  take_at p at above (Some (HeaderUnit x)) is =
-      let a = header_agrees (p.header.op % sh.layout.slots) x is in
-      let ops = chain_ops sh.layout.clients (v.checkpoint.content.op + 1) v.checkpoint.content.op_checksum 0 v.checkpoint.parts.sessions v.tail p sound.chain at in
+  take_at p at above (Some (HeaderUnit x)) is = let a = header_agrees (p.header.op % sh.layout.slots) x is in
+      let ops = chain_ops sh.layout.clients
+      (v.checkpoint.content.op + 1) v.checkpoint.content.op_checksum 0 v.checkpoint.parts.sessions v.tail p sound.chain at in
       elim (cases_eq x.op p.header.op) [
         | inl same ↦ elim (cases_eq x.boot (boot_of v)) [
-          | inl of ↦
-              let q = a.in_tail of (omega arith) in
-              let one : q.0 ≡ p = in_one sh.layout.clients (v.checkpoint.content.op + 1) v.checkpoint.content.op_checksum 0 v.checkpoint.parts.sessions v.tail q.0 p sound.chain q.1 at (q.2 ∙ same) in
+          | inl of ↦ let q = a.in_tail of (omega arith) in let one : q.0 ≡ p = in_one sh.layout.clients (v.checkpoint.content.op
+              + 1) v.checkpoint.content.op_checksum 0 v.checkpoint.parts.sessions v.tail q.0 p sound.chain q.1 at (q.2 ∙ same) in
               let checksum : x.checksum ≡ p.header.checksum = sym q.3 ∙ ap (λ (w : Message). w.header.checksum) one in
               rw ((seen_now (boot_of v) p.header.op x same of)) (same_take x.checksum p.header.checksum checksum)
           | inr past ↦ rw ((seen_past (boot_of v) p.header.op x same past)) tt
@@ -129,16 +126,18 @@ module _ (sh : Shape) (image : Units) (v : View) (sound : Sound sh v) (all : (pl
         ]
       ]
 
-  pub takes_if : (p : Message) → In p v.tail → image (PreparePlace (p.header.op % sh.layout.slots)) ≡ Some (PrepareUnit p) → Takes sh.layout.slots image v.checkpoint.content p
+  pub takes_if : (p : Message) → In p v.tail
+      → image (PreparePlace (p.header.op % sh.layout.slots)) ≡ Some (PrepareUnit p) → Takes sh.layout.slots image v.checkpoint.content p
   takes_if p at shown = record {
     shown = shown;
-    take = λ above. rw shown
-        (rw (sym (seen_now (boot_of v) p.header.op p.header refl (sound.records.tail p at above))) at (take_at p at above (image (HeaderPlace (p.header.op % sh.layout.slots))) refl));
+    take = λ above. rw shown (rw (sym (seen_now (boot_of v) p.header.op p.header refl (sound.records.tail p at above))) at
+        (take_at p at above (image (HeaderPlace (p.header.op % sh.layout.slots))) refl));
   }
   -- above the head nothing of this boot is shown
 
 -- what agrees with a view is below the ops above its head
-pub below_header : (sh : Shape) (v : View) (o : ℕ) (x : Header) → AgreesHeader sh v (o % sh.layout.slots) x → head v < o → o ≤ v.checkpoint.content.op + sh.layout.slots → IsBelow (boot_of v) o x
+pub below_header : (sh : Shape) (v : View) (o : ℕ) (x : Header)
+    → AgreesHeader sh v (o % sh.layout.slots) x → head v < o → o ≤ v.checkpoint.content.op + sh.layout.slots → IsBelow (boot_of v) o x
 below_header sh v o x a above within = elim (cases_lt x.op o) [
   | inl less ↦ inl less
   | inr not ↦ elim (cases_eq x.op o) [
@@ -148,7 +147,8 @@ below_header sh v o x a above within = elim (cases_lt x.op o) [
 ]
 
 -- a prepare there is no newer
-pub near_prepare : (sh : Shape) (v : View) (o : ℕ) (x : Message) → AgreesPrepare sh v (o % sh.layout.slots) x → head v < o → o ≤ v.checkpoint.content.op + sh.layout.slots → x.header.op ≤ o
+pub near_prepare : (sh : Shape) (v : View) (o : ℕ) (x : Message)
+    → AgreesPrepare sh v (o % sh.layout.slots) x → head v < o → o ≤ v.checkpoint.content.op + sh.layout.slots → x.header.op ≤ o
 near_prepare sh v o x a above within = elim (cases_lt o x.header.op) [
   | inl more ↦ absurd (mod_apart sh.layout.slots o x.header.op sh.some more (omega (arith, a.ring)) a.slot)
   | inr not ↦ omega arith
@@ -199,10 +199,12 @@ pub empty_cut : (a b : Seen) → (a ≡ Old) ⊎ (a ≡ Nothing) → IsNear b �
 empty_cut a b (inl is) near = subst (λ (s : Seen). IsEmpty (cut s (case s b))) (sym is) (cut_old b near)
 empty_cut a b (inr is) near = subst (λ (s : Seen). IsEmpty (cut s (case s b))) (sym is) (cut_nothing b near)
 
-pub decided_above : (n b top : ℕ) (image : Units) (o : ℕ) → top < o → decided n b top image o ≡ cut (seen_header b o (image (HeaderPlace (o % n)))) (decision n b image o)
+pub decided_above : (n b top : ℕ) (image : Units) (o : ℕ)
+    → top < o → decided n b top image o ≡ cut (seen_header b o (image (HeaderPlace (o % n)))) (decision n b image o)
 decided_above n b top image o above = go (nat_lt top o) (lt_true top o above)
   where
-    go : (t : Bool) → t ≡ true → (if t then cut (seen_header b o (image (HeaderPlace (o % n)))) (decision n b image o) else decision n b image o) ≡ cut (seen_header b o (image (HeaderPlace (o % n)))) (decision n b image o)
+    go : (t : Bool) → t ≡ true → (if t then cut (seen_header b o (image (HeaderPlace (o % n))))
+        (decision n b image o) else decision n b image o) ≡ cut (seen_header b o (image (HeaderPlace (o % n)))) (decision n b image o)
     go true yes_true = refl
     go false no_true = absurd (cc)
 

@@ -18,7 +18,8 @@ module _ (P : AnyUnit → Type 0) where
   now_all start (Synced ∷ es) all = now_all start es all
   now_all start ((Stopped after) ∷ es) all = all.0
 
-  images_all : (start : Units) (es : List UnitEvent) → All start es → (place : Place) (x : AnyUnit) → InImages (settled_of start es) place x → P x
+  images_all : (start : Units) (es : List UnitEvent)
+      → All start es → (place : Place) (x : AnyUnit) → InImages (settled_of start es) place x → P x
   images_all start [] all place x (inl here) = all place x here
   images_all start [] all place x (inr none) = absurd none
   images_all start ((Wrote touches stands after) ∷ es) all place x at = images_all start es all.1.1 place x at
@@ -34,7 +35,8 @@ module _ (P : AnyUnit → Type 0) where
   writes_all start (Synced ∷ es) all place x at = absurd at
   writes_all start ((Stopped after) ∷ es) all place x at = absurd at
 
-  pool_all : (start : Units) (es : List UnitEvent) → All start es → (place : Place) (x : AnyUnit) → InPool (record { start = start; events = es }) place x → P x
+  pool_all : (start : Units) (es : List UnitEvent)
+      → All start es → (place : Place) (x : AnyUnit) → InPool (record { start = start; events = es }) place x → P x
   pool_all start es all place x (inl old) = images_all start es all place x old
   pool_all start es all place x (inr new) = writes_all start es all place x new
 
@@ -49,5 +51,6 @@ module _ (P : AnyUnit → Type 0) where
   all_wrote put log puts all = (puts, (λ place x is. go place x (put place) refl is, all))
     where
       go : (place : Place) (x : AnyUnit) (o : Option AnyUnit) → put place ≡ o → overlay put (now log) place ≡ Some x → P x
-      go place x None none is = now_all log.start log.events all place x (ap (λ (o : Option AnyUnit). or_else o (now log place)) (sym none) ∙ is)
+      go place x None none is =
+          now_all log.start log.events all place x (ap (λ (o : Option AnyUnit). or_else o (now log place)) (sym none) ∙ is)
       go place x (Some y) some is = puts place x (some ∙ ap (λ (o : Option AnyUnit). or_else o (now log place)) (sym some) ∙ is)

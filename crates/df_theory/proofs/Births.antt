@@ -4,15 +4,18 @@ use Rattle.df_theory.{specs.{CopyPuts.{PutsCopies, update_steps}, Units.{AnyUnit
 
 -- ---- while there is none
 
-made_more : (c : Content) (image : Units) (images : List Units) → AreMade c images → ShowsMade c image → IsSplit image → AreMade c (image ∷ images)
+made_more : (c : Content) (image : Units) (images : List Units)
+    → AreMade c images → ShowsMade c image → IsSplit image → AreMade c (image ∷ images)
 made_more c image [] made shows split = absurd made
 made_more c image (before ∷ images) made shows split = (shows, split, made)
 
-begins_made : (sh : Shape) (image : Units) (images : List Units) (v : View) → IsFirst sh v → ShowsMade v.checkpoint.content image → AreMade v.checkpoint.content images → Begins sh image images v
+begins_made : (sh : Shape) (image : Units) (images : List Units) (v : View)
+    → IsFirst sh v → ShowsMade v.checkpoint.content image → AreMade v.checkpoint.content images → Begins sh image images v
 begins_made sh image [] v first shows made = tt
 begins_made sh image (before ∷ images) v first shows made = (first, shows, made)
 
-made_images : (c : Content) (images : List Units) → AreMade c images → (place : Place) (x : AnyUnit) → InImages images place x → IsMade c place x
+made_images : (c : Content) (images : List Units)
+    → AreMade c images → (place : Place) (x : AnyUnit) → InImages images place x → IsMade c place x
 made_images c [] made place x at = absurd at
 made_images c (image ∷ []) made place x (inl here) = absurd (let both : Some x ≡ None = sym here ∙ made place in cc)
 made_images c (image ∷ []) made place x (inr there) = absurd there
@@ -75,23 +78,20 @@ module _ (sh : Shape) (log : UnitLog) (c : Content) (m : IsMaking sh log c) (put
   }
 
 pub blank_law : BlankLaw
-blank_law sh c first =
-    let m : IsMaking sh blank_log c = record {
-      being = record { fair = tt; first = first; made = λ place. refl };
-      shows = λ place x is. absurd (let both : None ≡ Some x = is in cc);
-      pending = λ place x none. absurd none;
-      firm = λ n above. refl;
-      blank = λ n above. refl;
-    } in
-    (m, making_safe sh blank_log c m)
+blank_law sh c first = let m : IsMaking sh blank_log c = record {
+  being = record { fair = tt; first = first; made = λ place. refl };
+  shows = λ place x is. absurd (let both : None ≡ Some x = is in cc);
+  pending = λ place x none. absurd none;
+  firm = λ n above. refl;
+  blank = λ n above. refl;
+} in (m, making_safe sh blank_log c m)
 
 -- ---- the second copy
 
 module _ (sh : Shape) (log : UnitLog) (v : View) (put : Units) (first : IsFirst sh v) (m : IsMaking sh log v.checkpoint.content) (dry : IsDry log) (zeroth : now log (CopyPlace 0) ≡ Some (CopyUnit v.checkpoint.content)) (one : PutsOne put (CopyPlace 1) (CopyUnit v.checkpoint.content)) where
   pool_made : (place : Place) (x : AnyUnit) → InPool (wrote put log) place x → IsMade v.checkpoint.content place x
   pool_made place x (inl old) = made_images v.checkpoint.content (settled log) m.being.made place x old
-  pool_made place x (inr (inl new)) =
-      let at = one.only place x new in
+  pool_made place x (inr (inl new)) = let at = one.only place x new in
       subst (λ (p : Place). IsMade v.checkpoint.content p x) (sym at.0) at.1
   pool_made place x (inr (inr pending)) = m.pending place x pending
 
@@ -100,12 +100,13 @@ module _ (sh : Shape) (log : UnitLog) (v : View) (put : Units) (first : IsFirst 
   other_copy image left n away = go (put (CopyPlace n)) refl
     where
       go : (o : Option AnyUnit) → put (CopyPlace n) ≡ o → image (CopyPlace n) ≡ now log (CopyPlace n)
-      go None none = left (CopyPlace n) (λ i. is_some (none i) || dry (CopyPlace n) i) ∙ ap (λ (o : Option AnyUnit). or_else o (now log (CopyPlace n))) none
+      go None none = left (CopyPlace n) (λ i. is_some (none i) || dry (CopyPlace n) i)
+          ∙ ap (λ (o : Option AnyUnit). or_else o (now log (CopyPlace n))) none
       go (Some y) some = absurd (away (let at = (one.only (CopyPlace n) y some).0 in cc))
 
-  holds_if : (image : Units) → IsLeftBy (wrote put log) image → ShowsMade v.checkpoint.content image → (x : AnyUnit) → image (CopyPlace 1) ≡ Some x → Holds sh image v
-  holds_if image left shows x is =
-      let same : x ≡ CopyUnit v.checkpoint.content = shows (CopyPlace 1) x is in
+  holds_if : (image : Units) → IsLeftBy (wrote put log) image
+      → ShowsMade v.checkpoint.content image → (x : AnyUnit) → image (CopyPlace 1) ≡ Some x → Holds sh image v
+  holds_if image left shows x is = let same : x ≡ CopyUnit v.checkpoint.content = shows (CopyPlace 1) x is in
       first_holds sh v first image shows (other_copy image left 0 (λ e. omega arith) ∙ zeroth) (is ∙ ap Some same)
 
   split_if : (image : Units) → IsLeftBy (wrote put log) image → image (CopyPlace 1) ≡ None → IsSplit image
@@ -114,7 +115,8 @@ module _ (sh : Shape) (log : UnitLog) (v : View) (put : Units) (first : IsFirst 
     | inr away ↦ other_copy image left n away ∙ m.blank n above
   ])
 
-  either : (image : Units) → IsLeftBy (wrote put log) image → ShowsMade v.checkpoint.content image → (o : Option AnyUnit) → image (CopyPlace 1) ≡ o → MayHold sh image v
+  either : (image : Units) → IsLeftBy (wrote put log) image
+      → ShowsMade v.checkpoint.content image → (o : Option AnyUnit) → image (CopyPlace 1) ≡ o → MayHold sh image v
   either image left shows None none = inr (split_if image left none)
   either image left shows (Some x) some = inl (holds_if image left shows x some)
 
@@ -157,9 +159,7 @@ second_copy_law sh log v put first m dry zeroth one = born sh log v put first m 
 
 headers_made : (c : Content) (put : Units) → PutsReserved put → PutsMade c put
 headers_made c put reserved = record {
-  made = λ place y is.
-      let e = reserved place y is in
-      rw e.2 (e.1, e.3, e.4);
+  made = λ place y is. let e = reserved place y is in rw e.2 (e.1, e.3, e.4);
   copies = λ n above. go n (put (CopyPlace n)) refl;
 }
   where
@@ -169,9 +169,7 @@ headers_made c put reserved = record {
 
 copy_made : (c : Content) (put : Units) → PutsOne put (CopyPlace 0) (CopyUnit c) → PutsMade c put
 copy_made c put one = record {
-  made = λ place y is.
-      let at = one.only place y is in
-      rw at.0 at.1;
+  made = λ place y is. let at = one.only place y is in rw at.0 at.1;
   copies = λ n above. go n above (put (CopyPlace n)) refl;
 }
   where
@@ -179,7 +177,8 @@ copy_made c put one = record {
     go n above None none = none
     go n above (Some y) some = absurd (let zero_is : n ≡ 0 = (let at = (one.only (CopyPlace n) y some).0 in cc) in omega arith)
 
-headers_all : (sh : Shape) (c : Content) (puts : List Units) (log : UnitLog) → IsMaking sh log c → AllReserved puts → AtEach (IsSafe sh) log (all_puts puts) × IsMaking sh (after_steps (all_puts puts) log) c
+headers_all : (sh : Shape) (c : Content) (puts : List Units) (log : UnitLog)
+    → IsMaking sh log c → AllReserved puts → AtEach (IsSafe sh) log (all_puts puts) × IsMaking sh (after_steps (all_puts puts) log) c
 headers_all sh c [] log m all = (making_safe sh log c m, m)
 headers_all sh c (put ∷ puts) log m all =
     let rest = headers_all sh c puts (wrote put log) (making_wrote sh log c m put (headers_made c put all.0)) all.1 in
@@ -196,22 +195,23 @@ module _ (sh : Shape) (v : View) (puts : PutsCopies v.checkpoint.content) (first
   at_put put image n one = ap (λ (o : Option AnyUnit). or_else o (image (CopyPlace n))) one.at
 
   pub copies_all : (log : UnitLog) → IsMaking sh log c → AtEach (IsSafe sh) log copy_steps × RestsOn sh (after_steps copy_steps log) v
-  copies_all log m =
-      let log0 : UnitLog = add Synced log in
-      let m0 : IsMaking sh log0 c = making_synced sh log c m in
+  copies_all log m = let log0 : UnitLog = add Synced log in let m0 : IsMaking sh log0 c = making_synced sh log c m in
       let w0 : IsMaking sh (wrote puts.put0 log0) c = making_wrote sh log0 c m0 puts.put0 (copy_made c puts.put0 puts.one0) in
       let log1 : UnitLog = add Synced (wrote puts.put0 log0) in
       let m1 : IsMaking sh log1 c = making_synced sh (wrote puts.put0 log0) c w0 in
       let zeroth : now log1 (CopyPlace 0) ≡ Some (CopyUnit c) = at_put puts.put0 (now log0) 0 puts.one0 in
       let birth = born sh log1 v puts.put1 first m1 (λ place. refl) zeroth puts.one1 in
-      let log2 : UnitLog = add Synced (wrote puts.put1 log1) in
-      let zero2 : now log2 (CopyPlace 0) ≡ Some (CopyUnit c) = put_else puts.put1 (now log1) (CopyPlace 1) (CopyPlace 0) (CopyUnit c) puts.one1 (λ same. cc (same)) ∙ zeroth in
+      let log2 : UnitLog = add Synced (wrote puts.put1 log1) in let zero2 : now log2 (CopyPlace 0) ≡ Some (CopyUnit c) =
+      put_else puts.put1 (now log1) (CopyPlace 1) (CopyPlace 0) (CopyUnit c) puts.one1 (λ same. cc (same)) ∙ zeroth in
       let one_2 : now log2 (CopyPlace 1) ≡ Some (CopyUnit c) = at_put puts.put1 (now log1) 1 puts.one1 in
-      let third = copy_law sh log2 v puts.put2 2 birth.2 (quiet_synced (wrote puts.put1 log1)) puts.one2 (agree_beside (now log2) c 0 1 2 (omega arith) (omega arith) (λ e. omega arith) (λ e. omega arith) zero2 one_2) in
-      let log3 : UnitLog = add Synced (wrote puts.put2 log2) in
-      let zero3 : now log3 (CopyPlace 0) ≡ Some (CopyUnit c) = put_else puts.put2 (now log2) (CopyPlace 2) (CopyPlace 0) (CopyUnit c) puts.one2 (λ same. cc (same)) ∙ zero2 in
-      let one_3 : now log3 (CopyPlace 1) ≡ Some (CopyUnit c) = put_else puts.put2 (now log2) (CopyPlace 2) (CopyPlace 1) (CopyUnit c) puts.one2 (λ same. cc (same)) ∙ one_2 in
-      let fourth = copy_law sh log3 v puts.put3 3 third.rests (quiet_synced (wrote puts.put2 log2)) puts.one3 (agree_beside (now log3) c 0 1 3 (omega arith) (omega arith) (λ e. omega arith) (λ e. omega arith) zero3 one_3) in
+      let third = copy_law sh log2 v puts.put2 2 birth.2 (quiet_synced (wrote puts.put1 log1))
+      puts.one2 (agree_beside (now log2) c 0 1 2 (omega arith) (omega arith) (λ e. omega arith) (λ e. omega arith) zero2 one_2) in
+      let log3 : UnitLog = add Synced (wrote puts.put2 log2) in let zero3 : now log3 (CopyPlace 0) ≡ Some (CopyUnit c) =
+      put_else puts.put2 (now log2) (CopyPlace 2) (CopyPlace 0) (CopyUnit c) puts.one2 (λ same. cc (same)) ∙ zero2 in
+      let one_3 : now log3 (CopyPlace 1) ≡ Some (CopyUnit c) =
+      put_else puts.put2 (now log2) (CopyPlace 2) (CopyPlace 1) (CopyUnit c) puts.one2 (λ same. cc (same)) ∙ one_2 in
+      let fourth = copy_law sh log3 v puts.put3 3 third.rests (quiet_synced (wrote puts.put2 log2))
+      puts.one3 (agree_beside (now log3) c 0 1 3 (omega arith) (omega arith) (λ e. omega arith) (λ e. omega arith) zero3 one_3) in
       let log4 : UnitLog = add Synced (wrote puts.put3 log3) in (
         (
           making_safe sh log c m,
@@ -236,8 +236,7 @@ module _ (sh : Shape) (v : View) (puts : PutsCopies v.checkpoint.content) (first
       )
 
 pub format_law : FormatLaw
-format_law sh log v headers puts m first reserved =
-    let made = headers_all sh v.checkpoint.content headers log m reserved in
+format_law sh log v headers puts m first reserved = let made = headers_all sh v.checkpoint.content headers log m reserved in
     let rest = copies_all sh v puts first (after_steps (all_puts headers) log) made.1 in
     let steps : List Step = Syncs ∷ update_steps puts in (
       each_append (IsSafe sh) (all_puts headers) steps log made.0 rest.0,

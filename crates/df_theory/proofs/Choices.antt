@@ -2,15 +2,18 @@
 use Rattle.std.proofs.{Common.{◌≡◌, ◌⊎◌, inl, inr, ℕ, zero, suc, ◌≤◌, ◌<◌, Some, sym, ◌∙◌, ap, arith}, lemmas.Bool.{cases_eq}}
 use Rattle.df_theory.specs.{Units.{Content, CopyPlace, CopyUnit, Units}, Copies.{Agree, IsChosen, IsNextContent, rank_of}, View.{Checkpoint, View}, Next.{IsBoot, IsFinish}}
 
-pub same_copy : (image : Units) (n : ℕ) (c d : Content) → image (CopyPlace n) ≡ Some (CopyUnit c) → image (CopyPlace n) ≡ Some (CopyUnit d) → c ≡ d
+pub same_copy : (image : Units) (n : ℕ) (c d : Content)
+    → image (CopyPlace n) ≡ Some (CopyUnit c) → image (CopyPlace n) ≡ Some (CopyUnit d) → c ≡ d
 same_copy image n c d one two = let both : Some (CopyUnit c) ≡ Some (CopyUnit d) = sym one ∙ two in cc
 
 -- a content that two copies show, where whatever else two copies show is lower
-pub chosen_above : (image : Units) (c : Content) → Agree image c → ((d : Content) → Agree image d → (d ≡ c) ⊎ (rank_of d < rank_of c)) → IsChosen image c
+pub chosen_above : (image : Units) (c : Content)
+    → Agree image c → ((d : Content) → Agree image d → (d ≡ c) ⊎ (rank_of d < rank_of c)) → IsChosen image c
 chosen_above image c agreed other = record {
   agreed = agreed;
   greatest = λ d a. elim (other d a) [ inl same ↦ omega (arith, ap rank_of same) | inr low ↦ omega arith ];
-  lowest = λ d a tie n below is. elim (other d a) [ inl same ↦ (n, omega arith, is ∙ ap (λ (x : Content). Some (CopyUnit x)) same) | inr low ↦ absurd (omega arith) ];
+  lowest = λ d a tie n below is.
+      elim (other d a) [ inl same ↦ (n, omega arith, is ∙ ap (λ (x : Content). Some (CopyUnit x)) same) | inr low ↦ absurd (omega arith) ];
 }
 
 -- going down from copy to copy, each of two contents standing no higher than the other
@@ -19,21 +22,15 @@ meet : (fuel : ℕ) (image : Units) (c d : Content)
     → ((n : ℕ) → n < 4 → image (CopyPlace n) ≡ Some (CopyUnit c) → (k : ℕ) × (k ≤ n) × (image (CopyPlace k) ≡ Some (CopyUnit d)))
     → (n : ℕ) → n < fuel → n < 4 → image (CopyPlace n) ≡ Some (CopyUnit c) → c ≡ d
 meet zero image c d down_c down_d n below inside is = absurd (omega arith)
-meet (suc fuel) image c d down_c down_d n below inside is =
-    let k = down_d n inside is in
-    let kb : k.0 ≤ n = k.1 in
-    let m = down_c k.0 (omega arith) k.2 in
-    let mb : m.0 ≤ k.0 = m.1 in
-    elim (cases_eq k.0 n) [
+meet (suc fuel) image c d down_c down_d n below inside is = let k = down_d n inside is in let kb : k.0 ≤ n = k.1 in
+    let m = down_c k.0 (omega arith) k.2 in let mb : m.0 ≤ k.0 = m.1 in elim (cases_eq k.0 n) [
       | inl e ↦ same_copy image n c d is (ap (λ (i : ℕ). image (CopyPlace i)) (sym e) ∙ k.2)
       | inr differ ↦ meet fuel image c d down_c down_d m.0 (omega arith) (omega arith) m.2
     ]
 
 pub one_chosen : (image : Units) (c d : Content) → IsChosen image c → IsChosen image d → c ≡ d
-one_chosen image c d x y =
-    let cd : rank_of c ≤ rank_of d = y.greatest c x.agreed in
-    let dc : rank_of d ≤ rank_of c = x.greatest d y.agreed in
-    let same : rank_of d ≡ rank_of c = omega arith in
+one_chosen image c d x y = let cd : rank_of c ≤ rank_of d = y.greatest c x.agreed in
+    let dc : rank_of d ≤ rank_of c = x.greatest d y.agreed in let same : rank_of d ≡ rank_of c = omega arith in
     let inside : x.agreed.first < 4 = omega (arith, x.agreed.apart, x.agreed.inside) in
     meet 4 image c d (x.lowest d y.agreed same) (y.lowest c x.agreed (sym same)) x.agreed.first inside inside x.agreed.at_first
 

@@ -4,8 +4,7 @@ use Rattle.df_theory.{specs.{Units.{AnyUnit, Content, CopyPlace, CopyUnit, Heade
 
 -- in a file without boots nothing survives
 pub clear_one : (sh : Shape) (log : UnitLog) (v : View) → RestsOn sh log v → boot_of v ≡ 0 → IsClear (settled log) v
-clear_one sh log v rests none s p at own =
-    let a = rests.old (PreparePlace s) (PrepareUnit p) at in
+clear_one sh log v rests none s p at own = let a = rests.old (PreparePlace s) (PrepareUnit p) at in
     let same : a.0 ≡ p = (let e = a.1 in cc) in
     subst (λ (w : Message). w.header.op ≤ head v) same (elim (a.2.op (ap (λ (w : Message). w.header.boot) same ∙ own)) [
       | inl low ↦ low
@@ -29,7 +28,8 @@ AllLow b top (Syncs ∷ ss) = AllLow b top ss
 low_put : (b top : ℕ) (put : Units) (log : UnitLog) → PutsLow b top put → IsLow b top log → IsLow b top (wrote put log)
 low_put b top put log puts low = record { settled = low.settled; shown = λ s p is. go s p (put (PreparePlace s)) refl is }
   where
-    go : (s : ℕ) (p : Message) (o : Option AnyUnit) → put (PreparePlace s) ≡ o → overlay put (now log) (PreparePlace s) ≡ Some (PrepareUnit p) → p.header.boot ≡ b → p.header.op ≤ top
+    go : (s : ℕ) (p : Message) (o : Option AnyUnit)
+        → put (PreparePlace s) ≡ o → overlay put (now log) (PreparePlace s) ≡ Some (PrepareUnit p) → p.header.boot ≡ b → p.header.op ≤ top
     go s p None none is = low.shown s p (ap (λ (o : Option AnyUnit). or_else o (now log (PreparePlace s))) (sym none) ∙ is)
     go s p (Some y) some is = puts s p (some ∙ ap (λ (o : Option AnyUnit). or_else o (now log (PreparePlace s))) (sym some) ∙ is)
 
@@ -41,13 +41,12 @@ low_steps b top (Syncs ∷ ss) log all low = low_steps b top ss (add Synced log)
   shown = low.shown;
 })
 
-pub clear_steps : (sh : Shape) (log : UnitLog) (v u : View) (ss : List Step) → RestsOn sh log v → IsQuiet log → IsClear (settled log) v → boot_of u ≡ boot_of v → head v ≤ head u → AllLow (boot_of u) (head u) ss → IsClear (settled (after_steps ss log)) u
-clear_steps sh log v u ss rests quiet clear boot up all =
-    let low : IsLow (boot_of u) (head u) log = record {
-      settled = λ s p at own. omega (arith, clear s p at (own ∙ boot));
-      shown = λ s p is own. omega (arith, clear_in sh log v rests quiet clear s p is (own ∙ boot));
-    } in
-    (low_steps (boot_of u) (head u) ss log all low).settled
+pub clear_steps : (sh : Shape) (log : UnitLog) (v u : View) (ss : List Step) → RestsOn sh log v → IsQuiet log → IsClear (settled log) v
+    → boot_of u ≡ boot_of v → head v ≤ head u → AllLow (boot_of u) (head u) ss → IsClear (settled (after_steps ss log)) u
+clear_steps sh log v u ss rests quiet clear boot up all = let low : IsLow (boot_of u) (head u) log = record {
+  settled = λ s p at own. omega (arith, clear s p at (own ∙ boot));
+  shown = λ s p is own. omega (arith, clear_in sh log v rests quiet clear s p is (own ∙ boot));
+} in (low_steps (boot_of u) (head u) ss log all low).settled
 
 -- ---- writes of other units
 
@@ -61,7 +60,8 @@ low_append b top (Syncs ∷ ss) ts one two = low_append b top ss ts one two
 
 pub low_table : (b top : ℕ) (table : ℕ → Header) (puts : List Units) → AllPutTable table puts → AllLow b top (all_puts puts)
 low_table b top table [] all = tt
-low_table b top table (put ∷ puts) all = (λ s p is own. absurd (let at = (all.0 (PreparePlace s) (PrepareUnit p) is).1 in cc), low_table b top table puts all.1)
+low_table b top table (put ∷ puts) all =
+    (λ s p is own. absurd (let at = (all.0 (PreparePlace s) (PrepareUnit p) is).1 in cc), low_table b top table puts all.1)
 
 pub low_headers : (b top : ℕ) (table : ℕ → Header) (puts : List Units) → AllPutTable table puts → AllLow b top (header_steps puts)
 low_headers b top table [] all = tt
@@ -69,7 +69,8 @@ low_headers b top table (put ∷ puts) all = low_append b top (all_puts (put ∷
 
 pub low_copies : (b top : ℕ) (c : Content) (m n : ℕ) (ks : List (ℕ × Units)) → AllPutCopy c m n ks → AllLow b top (copy_steps ks)
 low_copies b top c m n [] all = tt
-low_copies b top c m n (k ∷ ks) all = (low_one b top k.1 (CopyPlace k.0) (CopyUnit c) all.0 (λ prepare. prepare), low_copies b top c m n ks all.3)
+low_copies b top c m n (k ∷ ks) all =
+    (low_one b top k.1 (CopyPlace k.0) (CopyUnit c) all.0 (λ prepare. prepare), low_copies b top c m n ks all.3)
 
 pub low_update : (b top : ℕ) (c : Content) (puts : PutsCopies c) → AllLow b top (update_steps puts)
 low_update b top c puts = (

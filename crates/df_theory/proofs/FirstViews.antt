@@ -6,32 +6,26 @@ module _ (sh : Shape) (v : View) (first : IsFirst sh v) where
   no_session : (k : ℕ) (s : Session) → slice_get (sessions v) k ≡ Some s → ⊥
   no_session k s at =
       let none : slice_get (sessions v) k ≡ None = λ i. slice_get (sessions_after (first.parts i).sessions (first.tail i)) k in
-      let both : None ≡ Some s = sym none ∙ at in
-      cc
+      let both : None ≡ Some s = sym none ∙ at in cc
 
   no_base : (k : ℕ) (s : Session) → slice_get v.checkpoint.parts.sessions k ≡ Some s → ⊥
-  no_base k s at =
-      let both : None ≡ Some s = ap (λ (p : Parts). slice_get p.sessions k) (sym first.parts) ∙ at in
-      cc
+  no_base k s at = let both : None ≡ Some s = ap (λ (p : Parts). slice_get p.sessions k) (sym first.parts) ∙ at in cc
 
   first_trailer : IsTrailer sh v.checkpoint.content v.checkpoint.chain v.checkpoint.parts
-  first_trailer =
-      let t = first.content.trailer in
-      let nothing : IsTrailer sh v.checkpoint.content [] no_parts = record {
-        reference = record {
-          address = omega (arith, t);
-          some = λ above. absurd (omega (arith, first.content.numbers));
-          none = λ none. (t.1, t.2);
-          size = λ above. absurd (omega (arith, t));
-        };
-        links = t.0;
-        count = record { holds = omega (arith, t); needed = λ some. absurd (omega arith) };
-        inside = λ a b none. absurd none;
-        size = sym t.2;
-        says = refl;
-        spare = λ a b none. refl;
-      } in
-      subst (λ (p : Parts). IsTrailer sh v.checkpoint.content v.checkpoint.chain p) (sym first.parts) (rw (sym first.chain) at nothing)
+  first_trailer = let t = first.content.trailer in let nothing : IsTrailer sh v.checkpoint.content [] no_parts = record {
+    reference = record {
+      address = omega (arith, t);
+      some = λ above. absurd (omega (arith, first.content.numbers));
+      none = λ none. (t.1, t.2);
+      size = λ above. absurd (omega (arith, t));
+    };
+    links = t.0;
+    count = record { holds = omega (arith, t); needed = λ some. absurd (omega arith) };
+    inside = λ a b none. absurd none;
+    size = sym t.2;
+    says = refl;
+    spare = λ a b none. refl;
+  } in subst (λ (p : Parts). IsTrailer sh v.checkpoint.content v.checkpoint.chain p) (sym first.parts) (rw (sym first.chain) at nothing)
 
   pub first_sound : Sound sh v
   first_sound = record {
@@ -57,9 +51,9 @@ module _ (sh : Shape) (v : View) (first : IsFirst sh v) where
     stores = λ k s at low. absurd (no_session k s at);
     records = record {
       pin_to = omega (arith, first.content.pin.1);
-      checksum =
-          let none : v.checkpoint.content.pin - v.checkpoint.content.op ≡ 0 = omega (arith, first.content.pin.1) in
-          ap (λ (k : ℕ). last_checksum v.checkpoint.content.op_checksum (take k v.tail)) none ∙ first.content.numbers.1 ∙ sym first.content.pin.2;
+      checksum = let none : v.checkpoint.content.pin - v.checkpoint.content.op ≡ 0 = omega (arith, first.content.pin.1) in
+          ap (λ (k : ℕ). last_checksum v.checkpoint.content.op_checksum (take k v.tail)) none
+          ∙ first.content.numbers.1 ∙ sym first.content.pin.2;
       tail = λ p at. absurd (rw first.tail at at);
       stored = λ k r is. absurd (let both : None ≡ Some r = sym (first.stored k) ∙ is in cc);
     };
@@ -72,9 +66,11 @@ module _ (sh : Shape) (v : View) (first : IsFirst sh v) where
   first_needs (ReplyPlace k) x need = let both : None ≡ Some need.0 = sym (first.stored k) ∙ need.1 in cc
   first_needs (BlockPlace a) x need = let none : InChain a need.0 [] = rw first.chain at need.1 in none
 
-  pub first_holds : (image : Units) → ShowsMade v.checkpoint.content image → image (CopyPlace 0) ≡ Some (CopyUnit v.checkpoint.content) → image (CopyPlace 1) ≡ Some (CopyUnit v.checkpoint.content) → Holds sh image v
+  pub first_holds : (image : Units) → ShowsMade v.checkpoint.content image → image (CopyPlace 0) ≡ Some (CopyUnit v.checkpoint.content)
+      → image (CopyPlace 1) ≡ Some (CopyUnit v.checkpoint.content) → Holds sh image v
   first_holds image made zero_is one_is = record {
     bears = record { sound = first_sound; agrees = λ place x is. made_agrees sh v place x (made place x is); needs = λ place x need. absurd (first_needs place x need) };
-    chosen = chosen_above image v.checkpoint.content (agree_at image v.checkpoint.content 0 1 (omega arith) (omega arith) zero_is one_is) (λ d a. inl (let is = made (CopyPlace a.first) (CopyUnit d) a.at_first in cc));
+    chosen = chosen_above image v.checkpoint.content (agree_at image v.checkpoint.content 0 1 (omega arith) (omega arith) zero_is one_is)
+        (λ d a. inl (let is = made (CopyPlace a.first) (CopyUnit d) a.at_first in cc));
     short = short_clear sh image v (λ s p is own. absurd (made (PreparePlace s) (PrepareUnit p) is));
   }

@@ -13,7 +13,8 @@ pub record Grew (v u : View) : Type 0 where
   pub replies : v.replies ≤ u.replies
   pub tail : (p : Message) → In p v.tail → u.checkpoint.content.op < p.header.op → In p u.tail
 
-copy_grew : (v u : View) (n : ℕ) (c : Content) → (v.checkpoint ≡ u.checkpoint) ⊎ (rank_of v.checkpoint.content < rank_of u.checkpoint.content) → AgreesCopy v n c → AgreesCopy u n c
+copy_grew : (v u : View) (n : ℕ) (c : Content)
+    → (v.checkpoint ≡ u.checkpoint) ⊎ (rank_of v.checkpoint.content < rank_of u.checkpoint.content) → AgreesCopy v n c → AgreesCopy u n c
 copy_grew v u n c (inl same) a = subst (λ (b : Checkpoint). (n ≡ 0 → ⊥) → (c ≡ b.content) ⊎ (rank_of c < rank_of b.content)) same a
 copy_grew v u n c (inr more) a = λ differs. elim (a differs) [
   | inl is ↦ inr (omega (arith, ap rank_of is))
@@ -22,13 +23,15 @@ copy_grew v u n c (inr more) a = λ differs. elim (a differs) [
 
 -- the head stays, or the boot is raised, or a prepare of this boot that is shown isn't above it: nothing survived there
 abbrev pub Stays : View → View → Place → AnyUnit → Type 0
-Stays v u place x = (head u ≡ head v) ⊎ (boot_of v < boot_of u) ⊎ ((s : ℕ) (p : Message) → place ≡ PreparePlace s → x ≡ PrepareUnit p → p.header.boot ≡ boot_of v → p.header.op ≤ head v)
+Stays v u place x = (head u ≡ head v) ⊎ (boot_of v < boot_of u)
+    ⊎ ((s : ℕ) (p : Message) → place ≡ PreparePlace s → x ≡ PrepareUnit p → p.header.boot ≡ boot_of v → p.header.op ≤ head v)
 
 binds_on : (top more : ℕ) (h : Header) → BindsHead top h → (more ≡ top) ⊎ (h.op ≤ top) → top ≤ more → BindsHead more h
 binds_on top more h binds (inl same) up = subst (λ (n : ℕ). BindsHead n h) (sym same) binds
 binds_on top more h binds (inr low) up = inl (omega arith)
 
-pub agrees_grew : (sh : Shape) (v u : View) → Grew v u → (place : Place) (x : AnyUnit) → Stays v u place x → Agrees sh v place x → Agrees sh u place x
+pub agrees_grew : (sh : Shape) (v u : View)
+    → Grew v u → (place : Place) (x : AnyUnit) → Stays v u place x → Agrees sh v place x → Agrees sh u place x
 agrees_grew sh v u g (CopyPlace n) x stays a = (a.0, a.1, copy_grew v u n a.0 g.checkpoint a.2)
 agrees_grew sh v u g (HeaderPlace s) x stays a = (
   a.0,
@@ -39,8 +42,7 @@ agrees_grew sh v u g (HeaderPlace s) x stays a = (
     checkpoint = omega (arith, a.2.checkpoint, g.sequence);
     boot = omega (arith, a.2.boot, g.boot);
     slot = a.2.slot;
-    in_tail = λ same above.
-        let old = a.2.in_tail (omega (arith, a.2.boot, g.boot)) (omega (arith, g.pin.0)) in
+    in_tail = λ same above. let old = a.2.in_tail (omega (arith, a.2.boot, g.boot)) (omega (arith, g.pin.0)) in
         (old.0, g.tail old.0 old.1 (omega (arith, old.2, g.pin.1)), old.2, old.3);
   },
 )
@@ -54,7 +56,8 @@ agrees_grew sh v u g (PreparePlace s) x stays a = (
     checkpoint = omega (arith, a.2.checkpoint, g.sequence);
     boot = omega (arith, a.2.boot, g.boot);
     slot = a.2.slot;
-    in_tail = λ same above to. g.tail a.0 (a.2.in_tail (omega (arith, a.2.boot, g.boot)) (omega (arith, g.pin.0)) (elim (low same) [ inl head_is ↦ omega arith | inr is ↦ is ])) (omega (arith, g.pin.1));
+    in_tail = λ same above to. g.tail a.0 (a.2.in_tail (omega (arith, a.2.boot, g.boot))
+        (omega (arith, g.pin.0)) (elim (low same) [ inl head_is ↦ omega arith | inr is ↦ is ])) (omega (arith, g.pin.1));
   },
 )
   where
@@ -94,7 +97,8 @@ next_grew sh v _ sound (Finish c is) = record {
   pin = is.records.pin_from;
   op = is.op_from;
   replies = omega arith;
-  tail = λ p at above. in_drop (c.content.op - v.checkpoint.content.op) sh.layout.clients (v.checkpoint.content.op + 1) v.checkpoint.content.op_checksum 0 v.checkpoint.parts.sessions v.tail p sound.chain at (omega (arith, is.op_from));
+  tail = λ p at above. in_drop (c.content.op - v.checkpoint.content.op) sh.layout.clients (v.checkpoint.content.op
+      + 1) v.checkpoint.content.op_checksum 0 v.checkpoint.parts.sessions v.tail p sound.chain at (omega (arith, is.op_from));
 }
 next_grew sh v _ sound (Boot d is) = record {
   head = omega (arith, is.same.op.0);

@@ -25,7 +25,8 @@ good = leads5.0.leads.moments.1.1.1.1.0
 left : IsLeftBy log image
 left place firm = go (same_place (CopyPlace 1) place) firm
   where
-    go : (b : Bool) → (is_some (if b then Some (CopyUnit content2) else None) || false) ≡ false → (if b then None else now half place) ≡ or_else (if b then Some (CopyUnit content2) else None) (now half place)
+    go : (b : Bool) → (is_some (if b then Some (CopyUnit content2) else None) || false) ≡ false
+        → (if b then None else now half place) ≡ or_else (if b then Some (CopyUnit content2) else None) (now half place)
     go true wet = absurd (let no_unit : true ≡ false = wet in cc)
     go false dry = refl
 

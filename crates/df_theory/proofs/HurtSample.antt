@@ -22,8 +22,7 @@ no_more : (ps : List Message) → 0 < length ps → ((p : Message) → In p ps �
 no_more [] some takes chain = omega arith
 no_more (p ∷ ps) some takes chain =
     let none : shown (PreparePlace (p.header.op % 16)) ≡ None = ap (λ (o : ℕ). shown (PreparePlace (o % 16))) chain.0.op_is in
-    let both : Some (PrepareUnit p) ≡ None = sym (takes p (inl refl)).shown ∙ none in
-    cc
+    let both : Some (PrepareUnit p) ≡ None = sym (takes p (inl refl)).shown ∙ none in cc
 
 no_tail : IsTail shape shown first.checkpoint []
 no_tail = record {
@@ -48,20 +47,18 @@ lost : NotLost shown content1 0 → ⊥
 lost none = omega (arith, none.header 1 prepare1.header refl refl)
 
 pub hurt_sample_law : HurtSampleLaw
-hurt_sample_law =
-    let never = never_behind_law shape log1 view1 shown leads1.0.leads.rests pooled agreed in
-    record {
-      shape = shape;
-      log = log1;
-      view = view1;
-      shown = shown;
-      rests = leads1.0.leads.rests;
-      chance = chance;
-      agreed = agreed;
-      hurt = λ place away. without_else (PreparePlace 1) place (now log1) away;
-      refuses = Lost first.checkpoint [] [] (record {
-        readable = record { chosen = never.0; sound = leads1.0.leads.rests.holds.bears.sound.checkpoint; shown = λ a x none. absurd none };
-        not_behind = never.1;
-        tail_is = no_tail;
-      }) reach lost;
-    }
+hurt_sample_law = let never = never_behind_law shape log1 view1 shown leads1.0.leads.rests pooled agreed in record {
+  shape = shape;
+  log = log1;
+  view = view1;
+  shown = shown;
+  rests = leads1.0.leads.rests;
+  chance = chance;
+  agreed = agreed;
+  hurt = λ place away. without_else (PreparePlace 1) place (now log1) away;
+  refuses = Lost first.checkpoint [] [] (record {
+    readable = record { chosen = never.0; sound = leads1.0.leads.rests.holds.bears.sound.checkpoint; shown = λ a x none. absurd none };
+    not_behind = never.1;
+    tail_is = no_tail;
+  }) reach lost;
+}

@@ -7,7 +7,8 @@ pub record IsOpen (sh : Shape) (v : View) (j : Units) (place : Place) : Type 0 w
   pub needless : (x : AnyUnit) → Needs sh v place x → ⊥
   pub agrees : (x : AnyUnit) → j place ≡ Some x → Agrees sh v place x
 
-pub bears_open : (sh : Shape) (v : View) (i j : Units) → Bears sh i v → ((place : Place) → (j place ≡ i place) ⊎ IsOpen sh v j place) → Bears sh j v
+pub bears_open : (sh : Shape) (v : View) (i j : Units)
+    → Bears sh i v → ((place : Place) → (j place ≡ i place) ⊎ IsOpen sh v j place) → Bears sh j v
 bears_open sh v i j bears each = record {
   sound = bears.sound;
   agrees = λ place x is. elim (each place) [
@@ -28,8 +29,7 @@ pub chosen_same : (i j : Units) (c : Content) → ((k : ℕ) → j (CopyPlace k)
 chosen_same i j c same h = record {
   agreed = agree_same i j c same h.agreed;
   greatest = λ d a. h.greatest d (agree_same j i d (λ k. sym (same k)) a);
-  lowest = λ d a tie n below shown.
-      let k = h.lowest d (agree_same j i d (λ m. sym (same m)) a) tie n below (sym (same n) ∙ shown) in
+  lowest = λ d a tie n below shown. let k = h.lowest d (agree_same j i d (λ m. sym (same m)) a) tie n below (sym (same n) ∙ shown) in
       (k.0, k.1, same k.0 ∙ k.2);
 }
 
@@ -41,10 +41,8 @@ IsClearIn image v = (s : ℕ) (p : Message) → image (PreparePlace s) ≡ Some 
 
 pub short_clear : (sh : Shape) (image : Units) (v : View) → IsClearIn image v → IsShort sh image v
 short_clear sh image v clear [] more = omega (arith, more.some)
-short_clear sh image v clear (p ∷ ps) more =
-    let own = more.behind.shown p (inl refl) in
-    let low = clear (p.header.op % sh.layout.slots) p own.shown own.own in
-    omega (arith, low, more.behind.chain.0.op_is)
+short_clear sh image v clear (p ∷ ps) more = let own = more.behind.shown p (inl refl) in
+    let low = clear (p.header.op % sh.layout.slots) p own.shown own.own in omega (arith, low, more.behind.chain.0.op_is)
 
 pub short_same : (sh : Shape) (i j : Units) (v : View) → ((s : ℕ) → j (PreparePlace s) ≡ i (PreparePlace s)) → IsShort sh i v → IsShort sh j v
 short_same sh i j v same short ps more = short ps (record {

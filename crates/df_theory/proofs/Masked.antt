@@ -11,8 +11,10 @@ with_copies copies image (ReplyPlace k) = image (ReplyPlace k)
 with_copies copies image (BlockPlace a) = image (BlockPlace a)
 
 -- images that show the same at each place of each kind are one
-pub same_images : (image other : Units) → ((n : ℕ) → image (CopyPlace n) ≡ other (CopyPlace n)) → ((s : ℕ) → image (HeaderPlace s) ≡ other (HeaderPlace s))
-    → ((s : ℕ) → image (PreparePlace s) ≡ other (PreparePlace s)) → ((k : ℕ) → image (ReplyPlace k) ≡ other (ReplyPlace k)) → ((a : ℕ) → image (BlockPlace a) ≡ other (BlockPlace a)) → image ≡ other
+pub same_images : (image other : Units)
+    → ((n : ℕ) → image (CopyPlace n) ≡ other (CopyPlace n)) → ((s : ℕ) → image (HeaderPlace s) ≡ other (HeaderPlace s))
+    → ((s : ℕ) → image (PreparePlace s) ≡ other (PreparePlace s))
+    → ((k : ℕ) → image (ReplyPlace k) ≡ other (ReplyPlace k)) → ((a : ℕ) → image (BlockPlace a) ≡ other (BlockPlace a)) → image ≡ other
 same_images image other copies headers prepares replies blocks i place = go place i
   where
     go : (p : Place) → image p ≡ other p
@@ -73,18 +75,19 @@ found_masked sh image v f =
     found_recopied sh (λ n. image (CopyPlace n)) (λ n. Some (CopyUnit v.checkpoint.content)) image v (masked_chosen v.checkpoint.content image)
     (subst (λ (j : Units). IsFound sh j v) (own_copies image) f)
 
-found_unmasked : (sh : Shape) (c : Content) (image : Units) (v : View) → IsChosen image v.checkpoint.content → IsFound sh (masked c image) v → IsFound sh image v
-found_unmasked sh c image v chosen f =
-    subst (λ (j : Units). IsFound sh j v) (sym (own_copies image))
-    (found_recopied sh (λ n. Some (CopyUnit c)) (λ n. image (CopyPlace n)) image v (subst (λ (j : Units). IsChosen j v.checkpoint.content) (own_copies image) chosen) f)
+found_unmasked : (sh : Shape) (c : Content) (image : Units) (v : View)
+    → IsChosen image v.checkpoint.content → IsFound sh (masked c image) v → IsFound sh image v
+found_unmasked sh c image v chosen f = subst (λ (j : Units). IsFound sh j v) (sym (own_copies image))
+    (found_recopied sh (λ n. Some (CopyUnit c)) (λ n.
+    image (CopyPlace n)) image v (subst (λ (j : Units). IsChosen j v.checkpoint.content) (own_copies image) chosen) f)
 
 -- an image holds its view, whatever its copies show, once they are made equal
-pub masked_holds : (sh : Shape) (image : Units) (v : View) → AreOfPlaces sh image → IsFound sh image v → Holds sh (masked v.checkpoint.content image) v
+pub masked_holds : (sh : Shape) (image : Units) (v : View)
+    → AreOfPlaces sh image → IsFound sh image v → Holds sh (masked v.checkpoint.content image) v
 masked_holds sh image v places f = found_holds sh (masked v.checkpoint.content image) v of (found_masked sh image v f) clean
   where
     of_copy : (n : ℕ) (x : AnyUnit) → masked v.checkpoint.content image (CopyPlace n) ≡ Some x → IsOfPlace sh (CopyPlace n) x
-    of_copy n x is =
-        let old = places (CopyPlace f.chosen.agreed.first) (CopyUnit v.checkpoint.content) f.chosen.agreed.at_first in
+    of_copy n x is = let old = places (CopyPlace f.chosen.agreed.first) (CopyUnit v.checkpoint.content) f.chosen.agreed.at_first in
         let one : v.checkpoint.content ≡ old.0 = (let e = old.1 in cc) in
         let here : CopyUnit v.checkpoint.content ≡ x = (let both : Some (CopyUnit v.checkpoint.content) ≡ Some x = is in cc) in
         (v.checkpoint.content, sym here, omega (arith, old.2, ap (λ (c : Content). c.checksum) one))
@@ -100,11 +103,14 @@ masked_holds sh image v places f = found_holds sh (masked v.checkpoint.content i
     clean n c is = λ differs. inl (masked_only v.checkpoint.content image n c is)
 
 -- and it is found where its own copies choose it
-pub unmasked_found : (sh : Shape) (image : Units) (v : View) → Holds sh (masked v.checkpoint.content image) v → IsChosen image v.checkpoint.content → IsFound sh image v
-unmasked_found sh image v holds chosen = found_unmasked sh v.checkpoint.content image v chosen (holds_found sh (masked v.checkpoint.content image) v holds)
+pub unmasked_found : (sh : Shape) (image : Units) (v : View)
+    → Holds sh (masked v.checkpoint.content image) v → IsChosen image v.checkpoint.content → IsFound sh image v
+unmasked_found sh image v holds chosen =
+    found_unmasked sh v.checkpoint.content image v chosen (holds_found sh (masked v.checkpoint.content image) v holds)
 
 -- and held, where they are clean
-pub unmasked_holds : (sh : Shape) (image : Units) (v : View) → Holds sh (masked v.checkpoint.content image) v → IsChosen image v.checkpoint.content
+pub unmasked_holds : (sh : Shape) (image : Units) (v : View)
+    → Holds sh (masked v.checkpoint.content image) v → IsChosen image v.checkpoint.content
     → ((n : ℕ) (x : AnyUnit) → image (CopyPlace n) ≡ Some x → Agrees sh v (CopyPlace n) x) → Holds sh image v
 unmasked_holds sh image v holds chosen clean = record {
   bears = bears_open sh v (masked v.checkpoint.content image) image holds.bears each;

@@ -7,23 +7,22 @@ pub record IsUnderWay (sh : Shape) (image : Units) (v : View) (table : ℕ → H
   pub each : (s : ℕ) → IsFromSlot sh image v s (table s)
 
 -- a slot that shows the table's header still does so
-shown_still : (table : ℕ → Header) (put image : Units) → PutsTable table put → (s : ℕ) → image (HeaderPlace s) ≡ Some (HeaderUnit (table s)) → overlay put image (HeaderPlace s) ≡ Some (HeaderUnit (table s))
+shown_still : (table : ℕ → Header) (put image : Units) → PutsTable table put
+    → (s : ℕ) → image (HeaderPlace s) ≡ Some (HeaderUnit (table s)) → overlay put image (HeaderPlace s) ≡ Some (HeaderUnit (table s))
 shown_still table put image puts s shown = go (put (HeaderPlace s)) refl
   where
     go : (o : Option AnyUnit) → put (HeaderPlace s) ≡ o → overlay put image (HeaderPlace s) ≡ Some (HeaderUnit (table s))
     go None none = ap (λ (o : Option AnyUnit). or_else o (image (HeaderPlace s))) none ∙ shown
-    go (Some y) some =
-        let e = puts (HeaderPlace s) y some in
-        let slot : e.0 ≡ s = (let at = e.1 in cc) in
+    go (Some y) some = let e = puts (HeaderPlace s) y some in let slot : e.0 ≡ s = (let at = e.1 in cc) in
         ap (λ (o : Option AnyUnit). or_else o (image (HeaderPlace s))) some ∙ ap Some (e.2 ∙ ap (λ (k : ℕ). HeaderUnit (table k)) slot)
 
-shown_put : (table : ℕ → Header) (put image : Units) → PutsTable table put → (s : ℕ) (y : AnyUnit) → put (HeaderPlace s) ≡ Some y → overlay put image (HeaderPlace s) ≡ Some (HeaderUnit (table s))
-shown_put table put image puts s y some =
-    let e = puts (HeaderPlace s) y some in
-    let slot : e.0 ≡ s = (let at = e.1 in cc) in
+shown_put : (table : ℕ → Header) (put image : Units) → PutsTable table put
+    → (s : ℕ) (y : AnyUnit) → put (HeaderPlace s) ≡ Some y → overlay put image (HeaderPlace s) ≡ Some (HeaderUnit (table s))
+shown_put table put image puts s y some = let e = puts (HeaderPlace s) y some in let slot : e.0 ≡ s = (let at = e.1 in cc) in
     ap (λ (o : Option AnyUnit). or_else o (image (HeaderPlace s))) some ∙ ap Some (e.2 ∙ ap (λ (k : ℕ). HeaderUnit (table k)) slot)
 
-pub under_way_still : (sh : Shape) (v : View) (table : ℕ → Header) (put image : Units) → PutsTable table put → IsUnderWay sh image v table → IsUnderWay sh (overlay put image) v table
+pub under_way_still : (sh : Shape) (v : View) (table : ℕ → Header) (put image : Units)
+    → PutsTable table put → IsUnderWay sh image v table → IsUnderWay sh (overlay put image) v table
 under_way_still sh v table put image puts way = record {
   each = λ s. elim (way.each s) [
     | inl shown ↦ inl (shown_still table put image puts s shown)
@@ -31,15 +30,15 @@ under_way_still sh v table put image puts way = record {
   ];
 }
 
-pub is_mend : (sh : Shape) (v : View) (table : ℕ → Header) (put image : Units) → PutsTable table put → IsUnderWay sh image v table → IsHeaderMend sh image v put
+pub is_mend : (sh : Shape) (v : View) (table : ℕ → Header) (put image : Units)
+    → PutsTable table put → IsUnderWay sh image v table → IsHeaderMend sh image v put
 is_mend sh v table put image puts way = record {
-  each = λ place y is.
-      let e = puts place y is in
-      (e.0, table e.0, e.1, e.2, way.each e.0);
+  each = λ place y is. let e = puts place y is in (e.0, table e.0, e.1, e.2, way.each e.0);
 }
 
 -- the header sectors
-headers_rests : (sh : Shape) (v : View) (table : ℕ → Header) (puts : List Units) (log : UnitLog) → RestsOn sh log v → IsUnderWay sh (now log) v table → AllPutTable table puts → AtEach (IsGoodLog sh v v) log (all_puts puts) × RestsOn sh (after_steps (all_puts puts) log) v
+headers_rests : (sh : Shape) (v : View) (table : ℕ → Header) (puts : List Units) (log : UnitLog) → RestsOn sh log v → IsUnderWay sh (now
+    log) v table → AllPutTable table puts → AtEach (IsGoodLog sh v v) log (all_puts puts) × RestsOn sh (after_steps (all_puts puts) log) v
 headers_rests sh v table [] log rests way all = (good_rests sh log v v v rests (inl refl), rests)
 headers_rests sh v table (put ∷ puts) log rests way all =
     let wrote_one = header_law sh log v put rests (is_mend sh v table put (now log) all.0 way) in
@@ -80,7 +79,8 @@ headers_miss table (put ∷ puts) all n = (no_copy table put all.0 n, headers_mi
 
 pub header_steps_miss : (table : ℕ → Header) (puts : List Units) → AllPutTable table puts → (n : ℕ) → AllMiss (CopyPlace n) (header_steps puts)
 header_steps_miss table [] all n = tt
-header_steps_miss table (put ∷ puts) all n = (no_copy table put all.0 n, miss_append (CopyPlace n) (all_puts puts) (Syncs ∷ []) (headers_miss table puts all.1 n) tt)
+header_steps_miss table (put ∷ puts) all n =
+    (no_copy table put all.0 n, miss_append (CopyPlace n) (all_puts puts) (Syncs ∷ []) (headers_miss table puts all.1 n) tt)
 
 no_header : (c : Content) (k : ℕ) (put : Units) → PutsOne put (CopyPlace k) (CopyUnit c) → (s : ℕ) → put (HeaderPlace s) ≡ None
 no_header c k put one s = go (put (HeaderPlace s)) refl
@@ -95,14 +95,18 @@ copies_miss c m n (k ∷ ks) all s = (no_header c k.0 k.1 all.0 s, copies_miss c
 
 -- ---- the copies
 
-copies_rests : (sh : Shape) (v : View) (m n : ℕ) (ks : List (ℕ × Units)) (log : UnitLog) → m < n → n < 4 → now log (CopyPlace m) ≡ Some (CopyUnit v.checkpoint.content) → now log (CopyPlace n) ≡ Some (CopyUnit v.checkpoint.content)
-    → RestsOn sh log v → IsQuiet log → AllPutCopy v.checkpoint.content m n ks → AtEach (IsGoodLog sh v v) log (copy_steps ks) × RestsOn sh (after_steps (copy_steps ks) log) v
+copies_rests : (sh : Shape) (v : View) (m n : ℕ) (ks : List (ℕ × Units)) (log : UnitLog) → m < n
+    → n < 4 → now log (CopyPlace m) ≡ Some (CopyUnit v.checkpoint.content) → now log (CopyPlace n) ≡ Some (CopyUnit v.checkpoint.content)
+    → RestsOn sh log v → IsQuiet log → AllPutCopy v.checkpoint.content m n ks
+    → AtEach (IsGoodLog sh v v) log (copy_steps ks) × RestsOn sh (after_steps (copy_steps ks) log) v
 copies_rests sh v m n [] log apart inside one two rests quiet all = (good_rests sh log v v v rests (inl refl), rests)
 copies_rests sh v m n (k ∷ ks) log apart inside one two rests quiet all =
     let stepped = copy_law sh log v k.1 k.0 rests quiet all.0 (record { agreed = record { first = m; second = n; apart = apart; inside = inside; at_first = one; at_second = two }; no_first = all.1; no_second = all.2 }) in
     let next : UnitLog = add Synced (wrote k.1 log) in
-    let first : now next (CopyPlace m) ≡ Some (CopyUnit v.checkpoint.content) = put_else k.1 (now log) (CopyPlace k.0) (CopyPlace m) (CopyUnit v.checkpoint.content) all.0 (λ same. all.1 (let at : CopyPlace m ≡ CopyPlace k.0 = same in cc)) ∙ one in
-    let second : now next (CopyPlace n) ≡ Some (CopyUnit v.checkpoint.content) = put_else k.1 (now log) (CopyPlace k.0) (CopyPlace n) (CopyUnit v.checkpoint.content) all.0 (λ same. all.2 (let at : CopyPlace n ≡ CopyPlace k.0 = same in cc)) ∙ two in
+    let first : now next (CopyPlace m) ≡ Some (CopyUnit v.checkpoint.content) = put_else k.1 (now log) (CopyPlace k.0)
+    (CopyPlace m) (CopyUnit v.checkpoint.content) all.0 (λ same. all.1 (let at : CopyPlace m ≡ CopyPlace k.0 = same in cc)) ∙ one in
+    let second : now next (CopyPlace n) ≡ Some (CopyUnit v.checkpoint.content) = put_else k.1 (now log) (CopyPlace k.0)
+    (CopyPlace n) (CopyUnit v.checkpoint.content) all.0 (λ same. all.2 (let at : CopyPlace n ≡ CopyPlace k.0 = same in cc)) ∙ two in
     let rest = copies_rests sh v m n ks next apart inside first second stepped.rests (quiet_synced (wrote k.1 log)) all.3 in
     ((good_rests sh log v v v rests (inl refl), (stepped.good, rest.0)), rest.1)
 
@@ -115,11 +119,11 @@ pub record IsHalfWay (P : UnitLog → Type 0) (sh : Shape) (log : UnitLog) (v : 
   pub quiet : IsQuiet (after_steps (header_steps headers) log)
 
 pub half_way :
-    (P : UnitLog → Type 0) (sh : Shape) (log : UnitLog) (v : View) (headers : List Units) → ((l : UnitLog) → RestsOn sh l v → P l) → RestsOn sh log v → IsQuiet log
+    (P : UnitLog → Type 0) (sh : Shape) (log : UnitLog) (v : View) (headers : List Units)
+    → ((l : UnitLog) → RestsOn sh l v → P l) → RestsOn sh log v → IsQuiet log
     → AtEach P log (all_puts headers) × RestsOn sh (after_steps (all_puts headers) log) v → IsHalfWay P sh log v headers
 half_way P sh log v [] good rests quiet written = record { moments = good log rests; rests = rests; quiet = quiet }
-half_way P sh log v (put ∷ puts) good rests quiet written =
-    let after : UnitLog = after_steps (all_puts (put ∷ puts)) log in
+half_way P sh log v (put ∷ puts) good rests quiet written = let after : UnitLog = after_steps (all_puts (put ∷ puts)) log in
     let synced : RestsOn sh (add Synced after) v = synced_after sh v after written.1 in
     let same : after_steps (header_steps (put ∷ puts)) log ≡ add Synced after = after_append (all_puts (put ∷ puts)) (Syncs ∷ []) log in
     record {
@@ -130,11 +134,12 @@ half_way P sh log v (put ∷ puts) good rests quiet written =
 
 pub mend_law : MendLaw
 mend_law sh log v table headers copies may =
-    let half = half_way (IsGoodLog sh v v) sh log v headers (λ l at. good_rests sh l v v v at (inl refl)) may.rests may.quiet (headers_rests sh v table headers log may.rests (record { each = λ s. (may.tells s).from }) may.puts_headers) in
-    let mid : UnitLog = after_steps (header_steps headers) log in
-    let stays : (n : ℕ) → now mid (CopyPlace n) ≡ now log (CopyPlace n) = λ n. missed (CopyPlace n) (header_steps headers) log (header_steps_miss table headers may.puts_headers n) in
-    let agreed = may.agreed in
-    let rest = copies_rests sh v agreed.first agreed.second copies mid agreed.apart agreed.inside (stays agreed.first ∙ agreed.at_first) (stays agreed.second ∙ agreed.at_second) half.rests half.quiet may.puts_copies in (
+    let half = half_way (IsGoodLog sh v v) sh log v headers (λ l at. good_rests sh l v v v at (inl refl))
+    may.rests may.quiet (headers_rests sh v table headers log may.rests (record { each = λ s. (may.tells s).from }) may.puts_headers) in
+    let mid : UnitLog = after_steps (header_steps headers) log in let stays : (n : ℕ) → now mid (CopyPlace n) ≡ now log (CopyPlace n) =
+    λ n. missed (CopyPlace n) (header_steps headers) log (header_steps_miss table headers may.puts_headers n) in let agreed = may.agreed in
+    let rest = copies_rests sh v agreed.first agreed.second copies mid agreed.apart
+    agreed.inside (stays agreed.first ∙ agreed.at_first) (stays agreed.second ∙ agreed.at_second) half.rests half.quiet may.puts_copies in (
       each_append (IsGoodLog sh v v) (header_steps headers) (copy_steps copies) log half.moments rest.0,
       rw (sym (after_append (header_steps headers) (copy_steps copies) log)) at rest.1,
     )
@@ -144,34 +149,39 @@ mend_law sh log v table headers copies may =
 pub headers_shown : (table : ℕ → Header) (puts : List Units) (log : UnitLog) → AllPutTable table puts → (s : ℕ) → (now log (HeaderPlace s) ≡ Some (HeaderUnit (table s))) ⊎ Reaches puts (HeaderPlace s) → now (after_steps (all_puts puts) log) (HeaderPlace s) ≡ Some (HeaderUnit (table s))
 headers_shown table [] log all s (inl shown) = shown
 headers_shown table [] log all s (inr none) = absurd none
-headers_shown table (put ∷ puts) log all s (inl shown) = headers_shown table puts (wrote put log) all.1 s (inl (shown_still table put (now log) all.0 s shown))
-headers_shown table (put ∷ puts) log all s (inr (inl here)) = headers_shown table puts (wrote put log) all.1 s (inl (shown_put table put (now log) all.0 s here.0 here.1))
+headers_shown table (put ∷ puts) log all s (inl shown) =
+    headers_shown table puts (wrote put log) all.1 s (inl (shown_still table put (now log) all.0 s shown))
+headers_shown table (put ∷ puts) log all s (inr (inl here)) =
+    headers_shown table puts (wrote put log) all.1 s (inl (shown_put table put (now log) all.0 s here.0 here.1))
 headers_shown table (put ∷ puts) log all s (inr (inr there)) = headers_shown table puts (wrote put log) all.1 s (inr there)
 
 pub steps_shown : (table : ℕ → Header) (puts : List Units) (log : UnitLog) → AllPutTable table puts → (s : ℕ) → (now log (HeaderPlace s) ≡ Some (HeaderUnit (table s))) ⊎ Reaches puts (HeaderPlace s) → now (after_steps (header_steps puts) log) (HeaderPlace s) ≡ Some (HeaderUnit (table s))
 steps_shown table [] log all s (inl shown) = shown
 steps_shown table [] log all s (inr none) = absurd none
 steps_shown table (put ∷ puts) log all s either =
-    ap (λ (l : UnitLog). now l (HeaderPlace s)) (after_append (all_puts (put ∷ puts)) (Syncs ∷ []) log) ∙ headers_shown table (put ∷ puts) log all s either
+    ap (λ (l : UnitLog). now l (HeaderPlace s)) (after_append (all_puts (put ∷ puts)) (Syncs ∷ []) log)
+    ∙ headers_shown table (put ∷ puts) log all s either
 
-pub copies_shown : (c : Content) (m n : ℕ) (ks : List (ℕ × Units)) (log : UnitLog) → AllPutCopy c m n ks → (k : ℕ) → (now log (CopyPlace k) ≡ Some (CopyUnit c)) ⊎ IsNumber k ks → now (after_steps (copy_steps ks) log) (CopyPlace k) ≡ Some (CopyUnit c)
+pub copies_shown : (c : Content) (m n : ℕ) (ks : List (ℕ × Units)) (log : UnitLog) → AllPutCopy c m n ks → (k : ℕ)
+    → (now log (CopyPlace k) ≡ Some (CopyUnit c)) ⊎ IsNumber k ks → now (after_steps (copy_steps ks) log) (CopyPlace k) ≡ Some (CopyUnit c)
 copies_shown c m n [] log all k (inl shown) = shown
 copies_shown c m n [] log all k (inr none) = absurd none
 copies_shown c m n (j ∷ ks) log all k either = copies_shown c m n ks (add Synced (wrote j.1 log)) all.3 k (elim (cases_eq k j.0) [
-  | inl here ↦ inl (ap (λ (i : ℕ). overlay j.1 (now log) (CopyPlace i)) here ∙ ap (λ (o : Option AnyUnit). or_else o (now log (CopyPlace j.0))) all.0.at)
+  | inl here ↦ inl
+      (ap (λ (i : ℕ). overlay j.1 (now log) (CopyPlace i)) here ∙ ap (λ (o : Option AnyUnit). or_else o (now log (CopyPlace j.0))) all.0.at)
   | inr away ↦ elim either [
-    | inl shown ↦ inl (put_else j.1 (now log) (CopyPlace j.0) (CopyPlace k) (CopyUnit c) all.0 (λ same. away (let at : CopyPlace k ≡ CopyPlace j.0 = same in cc)) ∙ shown)
+    | inl shown ↦ inl (put_else j.1 (now log) (CopyPlace j.0) (CopyPlace k) (CopyUnit c) all.0 (λ same.
+        away (let at : CopyPlace k ≡ CopyPlace j.0 = same in cc)) ∙ shown)
     | inr number ↦ elim number [ inl here ↦ absurd (away here) | inr there ↦ inr there ]
   ]
 ])
 
 pub mends_whole_law : MendsWholeLaw
-mends_whole_law sh log v table headers copies may =
-    let mid : UnitLog = after_steps (header_steps headers) log in
-    let done : after_steps (mend_steps headers copies) log ≡ after_steps (copy_steps copies) mid = after_append (header_steps headers) (copy_steps copies) log in
-    record {
-      copies = λ k below.
-          ap (λ (l : UnitLog). now l (CopyPlace k)) done ∙ copies_shown v.checkpoint.content may.agreed.first may.agreed.second copies mid may.puts_copies k (elim (may.each_copy k below) [
+mends_whole_law sh log v table headers copies may = let mid : UnitLog = after_steps (header_steps headers) log in
+    let done : after_steps (mend_steps headers copies) log ≡ after_steps (copy_steps copies) mid =
+    after_append (header_steps headers) (copy_steps copies) log in record {
+      copies = λ k below. ap (λ (l : UnitLog). now l (CopyPlace k)) done ∙
+          copies_shown v.checkpoint.content may.agreed.first may.agreed.second copies mid may.puts_copies k (elim (may.each_copy k below) [
             | inl shown ↦ inl (missed (CopyPlace k) (header_steps headers) log (header_steps_miss table headers may.puts_headers k) ∙ shown)
             | inr number ↦ inr number
           ]);

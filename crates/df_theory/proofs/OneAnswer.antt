@@ -5,8 +5,7 @@ use Rattle.df_theory.{specs.{Units.{Block, BlockPlace, BlockUnit, Content, CopyP
 -- ---- one number of pieces, one checkpoint
 
 not_fewer : (room size n m : ℕ) → IsCount room size n → IsCount room size m → n < m → ⊥
-not_fewer room size n m one two less =
-    let le : room * n ≤ room * (m - 1) = mul-le-mul_left room (omega arith) in
+not_fewer room size n m one two less = let le : room * n ≤ room * (m - 1) = mul-le-mul_left room (omega arith) in
     omega (arith, one.holds, two.needed (omega arith))
 
 pub count_one : (room size n m : ℕ) → IsCount room size n → IsCount room size m → n ≡ m
@@ -25,7 +24,8 @@ readable_one sh image b d one two = λ i. record { content = content i; chain = 
     content = one_chosen image b.content d.content one.chosen two.chosen
 
     chain : b.chain ≡ d.chain
-    chain = same_chain (sh.layout.block_size - 256) b.content image b.chain d.chain b.content.trailer b.content.trailer_checksum one.sound.trailer.links
+    chain = same_chain
+        (sh.layout.block_size - 256) b.content image b.chain d.chain b.content.trailer b.content.trailer_checksum one.sound.trailer.links
         (rw (sym content) at two.sound.trailer.links) one.shown two.shown
 
     parts : b.parts ≡ d.parts
@@ -48,18 +48,23 @@ next_shown image room c chain read (d ∷ ds) a k shown split links more = (
 )
 
 -- a checkpoint that can be read has every block that is wanted
-readable_reads : (sh : Shape) (image : Units) (b : Checkpoint) (a k : ℕ) → IsReadable sh image b → ReadsTo sh image b.content a k → IsShown image a k
-readable_reads sh image b a k readable reads =
-    let front = front_of (sh.layout.block_size - 256) b.content image b.chain reads.read b.content.trailer b.content.trailer_checksum a k readable.sound.trailer.links reads.arrives
-    (λ e x y at is checksum. let both : Some (BlockUnit x) ≡ Some (BlockUnit y) = sym (readable.shown e x at) ∙ is in cc) in
-    let count = count_one (sh.layout.block_size - 256) b.content.trailer_size reads.count (length b.chain) reads.counts readable.sound.trailer.count in
-    next_shown image (sh.layout.block_size - 256) b.content b.chain reads.read front.0 a k readable.shown front.1 front.2 (omega (arith, reads.more, count))
+readable_reads : (sh : Shape) (image : Units) (b : Checkpoint) (a k : ℕ)
+    → IsReadable sh image b → ReadsTo sh image b.content a k → IsShown image a k
+readable_reads sh image b a k readable reads = let front = front_of (sh.layout.block_size - 256)
+    b.content image b.chain reads.read b.content.trailer b.content.trailer_checksum a k readable.sound.trailer.links reads.arrives
+    (λ e x y at is checksum. let both : Some (BlockUnit x) ≡ Some (BlockUnit y) = sym (readable.shown e x at) ∙ is in cc) in let count =
+    count_one (sh.layout.block_size - 256) b.content.trailer_size reads.count (length b.chain) reads.counts readable.sound.trailer.count in
+    next_shown image
+    (sh.layout.block_size - 256) b.content b.chain reads.read front.0 a k readable.shown front.1 front.2 (omega (arith, reads.more, count))
 
 -- two blocks that are wanted and not shown are one
-same_wanted : (image : Units) (bs ds : List (ℕ × Block)) (address checksum a k e m : ℕ) → Arrives image bs address checksum a k → Arrives image ds address checksum e m → (IsShown image a k → ⊥) → (IsShown image e m → ⊥) → a ≡ e
+same_wanted : (image : Units) (bs ds : List (ℕ × Block)) (address checksum a k e m : ℕ) → Arrives image bs address checksum a k
+    → Arrives image ds address checksum e m → (IsShown image a k → ⊥) → (IsShown image e m → ⊥) → a ≡ e
 same_wanted image [] [] address checksum a k e m one two none no_more = one.0 ∙ sym two.0
-same_wanted image [] (d ∷ ds) address checksum a k e m one two none no_more = absurd (none (d.1, ap (λ (x : ℕ). image (BlockPlace x)) one.0 ∙ two.3, two.2 ∙ sym one.1, two.4))
-same_wanted image (b ∷ bs) [] address checksum a k e m one two none no_more = absurd (no_more (b.1, ap (λ (x : ℕ). image (BlockPlace x)) two.0 ∙ one.3, one.2 ∙ sym two.1, one.4))
+same_wanted image [] (d ∷ ds) address checksum a k e m one two none no_more =
+    absurd (none (d.1, ap (λ (x : ℕ). image (BlockPlace x)) one.0 ∙ two.3, two.2 ∙ sym one.1, two.4))
+same_wanted image (b ∷ bs) [] address checksum a k e m one two none no_more =
+    absurd (no_more (b.1, ap (λ (x : ℕ). image (BlockPlace x)) two.0 ∙ one.3, one.2 ∙ sym two.1, one.4))
 same_wanted image (b ∷ bs) (d ∷ ds) address checksum a k e m one two none no_more =
     let block : d.1 ≡ b.1 = (let both : Some (BlockUnit d.1) ≡ Some (BlockUnit b.1) = sym two.3 ∙ one.3 in cc) in
     same_wanted image bs ds b.1.before b.1.before_checksum a k e m one.5 (rw block at two.5) none no_more
@@ -76,14 +81,17 @@ same_first image c ss n j k one two = elim (cases_lt j k) [
 ]
 
 -- a state with this checkpoint, tail and number of replies lacks none
-none_lacks : (image : Units) (b : Checkpoint) (tail : List Message) (n k : ℕ) (v : View) → LacksReply image b.content (sessions_after b.parts.sessions tail) n k → v.checkpoint ≡ b → v.tail ≡ tail → v.replies ≡ n → IsStored image v → ⊥
+none_lacks : (image : Units) (b : Checkpoint) (tail : List Message) (n k : ℕ) (v : View) → LacksReply
+    image b.content (sessions_after b.parts.sessions tail) n k → v.checkpoint ≡ b → v.tail ≡ tail → v.replies ≡ n → IsStored image v → ⊥
 none_lacks image b tail n k v lack base same count stored =
     let sessions_are : sessions v ≡ sessions_after b.parts.sessions tail = λ i. sessions_after (base i).parts.sessions (same i) in
     let there = stored.shown k lack.session (ap (λ (l : List Session). slice_get l k) sessions_are ∙ lack.at) (omega (arith, lack.stored)) in
     lack.lacks (there.0, there.2, there.3, subst (λ (d : Checkpoint). IsNamed d.content k there.0) base there.4)
 
-same_state : (image : Units) (b : Checkpoint) (tail : List Message) (n : ℕ) (v w : View) → v.checkpoint ≡ b → w.checkpoint ≡ b → v.tail ≡ tail → w.tail ≡ tail → v.replies ≡ n → w.replies ≡ n → IsStored image v → IsStored image w → v ≡ w
-same_state image b tail n v w base_v base_w tail_v tail_w count_v count_w stored_v stored_w = λ i. record { checkpoint = base i; tail = same i; replies = count i; stored = λ k. stored k i }
+same_state : (image : Units) (b : Checkpoint) (tail : List Message) (n : ℕ) (v w : View) → v.checkpoint ≡ b
+    → w.checkpoint ≡ b → v.tail ≡ tail → w.tail ≡ tail → v.replies ≡ n → w.replies ≡ n → IsStored image v → IsStored image w → v ≡ w
+same_state image b tail n v w base_v base_w tail_v tail_w count_v count_w stored_v stored_w =
+    λ i. record { checkpoint = base i; tail = same i; replies = count i; stored = λ k. stored k i }
   where
     base : v.checkpoint ≡ w.checkpoint
     base = base_v ∙ sym base_w
@@ -106,19 +114,19 @@ last_one v w x y same (inl p) (inr q) = absurd (omega (arith, p.0, q.0, ap boot_
 last_one v w x y same (inr p) (inl q) = absurd (omega (arith, p.0, q.0, ap boot_of same))
 last_one v w x y same (inr p) (inr q) = p.1 ∙ sym q.1
 
-replies_one : (image : Units) (b : Checkpoint) (tail : List Message) (x y : OpenAnswer) → AnswersReplies image b tail x → AnswersReplies image b tail y → x ≡ y
+replies_one : (image : Units) (b : Checkpoint) (tail : List Message) (x y : OpenAnswer)
+    → AnswersReplies image b tail x → AnswersReplies image b tail y → x ≡ y
 replies_one image b tail x y one two = go one.2 two.2
   where
     same : two.0 ≡ one.0
-    same =
-        let up = not_more image b.content tail one.0 two.0 one.1 two.1 in
-        let down = not_more image b.content tail two.0 one.0 two.1 one.1 in
-        omega arith
+    same = let up = not_more image b.content tail one.0 two.0 one.1 two.1 in
+        let down = not_more image b.content tail two.0 one.0 two.1 one.1 in omega arith
 
-    go : (((k : ℕ) × LacksReply image b.content (sessions_after b.parts.sessions tail) one.0 k × (x ≡ Refused (Damaged (ReplyPlace k)))) ⊎ ((v : View) × (v.checkpoint ≡ b) × (v.tail ≡ tail) × (v.replies ≡ one.0) × IsStored image v × AnswersLast v x))
-        → (((k : ℕ) × LacksReply image b.content (sessions_after b.parts.sessions tail) two.0 k × (y ≡ Refused (Damaged (ReplyPlace k)))) ⊎ ((v : View) × (v.checkpoint ≡ b) × (v.tail ≡ tail) × (v.replies ≡ two.0) × IsStored image v × AnswersLast v y)) → x ≡ y
-    go (inl p) (inl q) =
-        let k = same_first image b.content (sessions_after b.parts.sessions tail) one.0 p.0 q.0 p.1 (rw same at q.1) in
+    go : (((k : ℕ) × LacksReply image b.content (sessions_after b.parts.sessions tail) one.0 k × (x ≡ Refused (Damaged (ReplyPlace k))))
+        ⊎ ((v : View) × (v.checkpoint ≡ b) × (v.tail ≡ tail) × (v.replies ≡ one.0) × IsStored image v × AnswersLast v x))
+        → (((k : ℕ) × LacksReply image b.content (sessions_after b.parts.sessions tail) two.0 k × (y ≡ Refused (Damaged (ReplyPlace k))))
+        ⊎ ((v : View) × (v.checkpoint ≡ b) × (v.tail ≡ tail) × (v.replies ≡ two.0) × IsStored image v × AnswersLast v y)) → x ≡ y
+    go (inl p) (inl q) = let k = same_first image b.content (sessions_after b.parts.sessions tail) one.0 p.0 q.0 p.1 (rw same at q.1) in
         p.2 ∙ ap (λ (n : ℕ). Refused (Damaged (ReplyPlace n))) k ∙ sym q.2
     go (inl p) (inr q) = absurd (none_lacks image b tail one.0 p.0 q.0 p.1 q.1 q.2 (q.3 ∙ same) q.4)
     go (inr p) (inl q) = absurd (none_lacks image b tail two.0 q.0 p.0 q.1 p.1 p.2 (p.3 ∙ sym same) p.4)
@@ -133,31 +141,40 @@ tail_one sh image b x y one two = go one.2 (rw same at two.2)
     reach : (ps qs : List Message) → IsReach sh image b one.0 ps → IsReach sh image b one.0 qs → length ps ≡ length qs
     reach ps qs a c = elim (cases_lt (length ps) (length qs)) [
       | inl less ↦ absurd (one_reach sh image b one.0 ps qs a c less)
-      | inr more ↦ elim (cases_lt (length qs) (length ps)) [ inl less ↦ absurd (one_reach sh image b one.0 qs ps c a less) | inr is ↦ omega arith ]
+      | inr more ↦
+          elim (cases_lt (length qs) (length ps)) [ inl less ↦ absurd (one_reach sh image b one.0 qs ps c a less) | inr is ↦ omega arith ]
     ]
 
     go : ((NotLost image b.content (b.content.op + length one.0) → ⊥) × ((more : List Message) × IsReach sh image b one.0 more × (x ≡ Refused (Damaged (PreparePlace (slot_behind sh b one.0 more)))))) ⊎ (NotLost image b.content (b.content.op + length one.0) × AnswersReplies image b one.0 x)
         → ((NotLost image b.content (b.content.op + length one.0) → ⊥) × ((more : List Message) × IsReach sh image b one.0 more × (y ≡ Refused (Damaged (PreparePlace (slot_behind sh b one.0 more)))))) ⊎ (NotLost image b.content (b.content.op + length one.0) × AnswersReplies image b one.0 y) → x ≡ y
-    go (inl p) (inl q) = p.1.2 ∙ ap (λ (n : ℕ). Refused (Damaged (PreparePlace ((b.content.op + length one.0 + n + 1) % sh.layout.slots)))) (reach p.1.0 q.1.0 p.1.1 q.1.1) ∙ sym q.1.2
+    go (inl p) (inl q) = p.1.2 ∙ ap (λ (n : ℕ). Refused (Damaged (PreparePlace ((b.content.op + length one.0 + n + 1) % sh.layout.slots))))
+        (reach p.1.0 q.1.0 p.1.1 q.1.1) ∙ sym q.1.2
     go (inl p) (inr q) = absurd (p.0 q.0)
     go (inr p) (inl q) = absurd (q.0 p.0)
     go (inr p) (inr q) = replies_one image b one.0 x y p.1 q.1
 
 -- the prepares that the superblock names
-known_one : (sh : Shape) (image : Units) (b : Checkpoint) (x y : OpenAnswer) → b.content.op ≤ b.content.pin → AnswersKnown sh image b x → AnswersKnown sh image b y → x ≡ y
-known_one sh image b x y from (inl p) (inl q) = p.2 ∙ ap (λ (n : ℕ). Refused (Damaged (PreparePlace (n % sh.layout.slots)))) (one_lacking sh image b.content p.0 q.0 p.1 q.1) ∙ sym q.2
-known_one sh image b x y from (inl p) (inr (inl q)) = absurd (none_lacking sh image b.content.op (q.0 ++ q.1.next ∷ q.1.rest) b.content p.0 q.1.known q.1.count p.1.above p.1)
-known_one sh image b x y from (inl p) (inr (inr q)) = absurd (named_all sh image b (take (b.content.pin - b.content.op) q.0) (tail_named sh image b q.0 q.1 from) p.0 p.1)
-known_one sh image b x y from (inr (inl p)) (inl q) = absurd (none_lacking sh image b.content.op (p.0 ++ p.1.next ∷ p.1.rest) b.content q.0 p.1.known p.1.count q.1.above q.1)
-known_one sh image b x y from (inr (inl p)) (inr (inl q)) =
-    let size : length p.0 ≡ length q.0 = elim (cases_lt (length p.0) (length q.0)) [
-      | inl less ↦ absurd (not_further sh image b p.0 q.0 p.1 q.1 less)
-      | inr more ↦ elim (cases_lt (length q.0) (length p.0)) [ inl less ↦ absurd (not_further sh image b q.0 p.0 q.1 p.1 less) | inr same ↦ omega arith ]
-    ] in
-    p.2 ∙ ap (λ (n : ℕ). Refused (Damaged (PreparePlace ((b.content.op + n + 1) % sh.layout.slots)))) size ∙ sym q.2
-known_one sh image b x y from (inr (inl p)) (inr (inr q)) = absurd (named_fit sh image b (take (b.content.pin - b.content.op) q.0) p.0 (tail_named sh image b q.0 q.1 from) p.1)
-known_one sh image b x y from (inr (inr p)) (inl q) = absurd (named_all sh image b (take (b.content.pin - b.content.op) p.0) (tail_named sh image b p.0 p.1 from) q.0 q.1)
-known_one sh image b x y from (inr (inr p)) (inr (inl q)) = absurd (named_fit sh image b (take (b.content.pin - b.content.op) p.0) q.0 (tail_named sh image b p.0 p.1 from) q.1)
+known_one : (sh : Shape) (image : Units) (b : Checkpoint) (x y : OpenAnswer)
+    → b.content.op ≤ b.content.pin → AnswersKnown sh image b x → AnswersKnown sh image b y → x ≡ y
+known_one sh image b x y from (inl p) (inl q) =
+    p.2 ∙ ap (λ (n : ℕ). Refused (Damaged (PreparePlace (n % sh.layout.slots)))) (one_lacking sh image b.content p.0 q.0 p.1 q.1) ∙ sym q.2
+known_one sh image b x y from (inl p) (inr (inl q)) =
+    absurd (none_lacking sh image b.content.op (q.0 ++ q.1.next ∷ q.1.rest) b.content p.0 q.1.known q.1.count p.1.above p.1)
+known_one sh image b x y from (inl p) (inr (inr q)) =
+    absurd (named_all sh image b (take (b.content.pin - b.content.op) q.0) (tail_named sh image b q.0 q.1 from) p.0 p.1)
+known_one sh image b x y from (inr (inl p)) (inl q) =
+    absurd (none_lacking sh image b.content.op (p.0 ++ p.1.next ∷ p.1.rest) b.content q.0 p.1.known p.1.count q.1.above q.1)
+known_one sh image b x y from (inr (inl p)) (inr (inl q)) = let size : length p.0 ≡ length q.0 = elim (cases_lt (length p.0) (length q.0)) [
+  | inl less ↦ absurd (not_further sh image b p.0 q.0 p.1 q.1 less)
+  | inr more ↦
+      elim (cases_lt (length q.0) (length p.0)) [ inl less ↦ absurd (not_further sh image b q.0 p.0 q.1 p.1 less) | inr same ↦ omega arith ]
+] in p.2 ∙ ap (λ (n : ℕ). Refused (Damaged (PreparePlace ((b.content.op + n + 1) % sh.layout.slots)))) size ∙ sym q.2
+known_one sh image b x y from (inr (inl p)) (inr (inr q)) =
+    absurd (named_fit sh image b (take (b.content.pin - b.content.op) q.0) p.0 (tail_named sh image b q.0 q.1 from) p.1)
+known_one sh image b x y from (inr (inr p)) (inl q) =
+    absurd (named_all sh image b (take (b.content.pin - b.content.op) p.0) (tail_named sh image b p.0 p.1 from) q.0 q.1)
+known_one sh image b x y from (inr (inr p)) (inr (inl q)) =
+    absurd (named_fit sh image b (take (b.content.pin - b.content.op) p.0) q.0 (tail_named sh image b p.0 p.1 from) q.1)
 known_one sh image b x y from (inr (inr p)) (inr (inr q)) = tail_one sh image b x y p q
 
 same_lowest : (image : Units) (c : Content) (n m : ℕ) → IsLowest image c n → IsLowest image c m → n ≡ m
@@ -166,14 +183,17 @@ same_lowest image c n m one two = elim (cases_lt n m) [
   | inr more ↦ elim (cases_lt m n) [ inl less ↦ absurd (one.lowest m less two.shows) | inr same ↦ omega arith ]
 ]
 
-traces_one : (sh : Shape) (image : Units) (b : Checkpoint) (x y : OpenAnswer) → b.content.op ≤ b.content.pin → AnswersTraces sh image b x → AnswersTraces sh image b y → x ≡ y
-traces_one sh image b x y from (inl p) (inl q) = p.3 ∙ ap (λ (n : ℕ). Refused (Damaged (CopyPlace n))) (same_lowest image b.content p.0 q.0 p.2 q.2) ∙ sym q.3
+traces_one : (sh : Shape) (image : Units) (b : Checkpoint) (x y : OpenAnswer)
+    → b.content.op ≤ b.content.pin → AnswersTraces sh image b x → AnswersTraces sh image b y → x ≡ y
+traces_one sh image b x y from (inl p) (inl q) =
+    p.3 ∙ ap (λ (n : ℕ). Refused (Damaged (CopyPlace n))) (same_lowest image b.content p.0 q.0 p.2 q.2) ∙ sym q.3
 traces_one sh image b x y from (inl p) (inr q) = absurd (p.1 q.0)
 traces_one sh image b x y from (inr p) (inl q) = absurd (q.1 p.0)
 traces_one sh image b x y from (inr p) (inr q) = known_one sh image b x y from p.1 q.1
 
 trailer_one : (sh : Shape) (image : Units) (c : Content) (x y : OpenAnswer) → AnswersTrailer sh image c x → AnswersTrailer sh image c y → x ≡ y
-trailer_one sh image c x y (inl p) (inl q) = p.4 ∙ ap (λ (n : ℕ). Refused (Damaged (BlockPlace n))) (same_wanted image p.2.read q.2.read c.trailer c.trailer_checksum p.0 p.1 q.0 q.1 p.2.arrives q.2.arrives p.3 q.3) ∙ sym q.4
+trailer_one sh image c x y (inl p) (inl q) = p.4 ∙ ap (λ (n : ℕ). Refused (Damaged (BlockPlace n)))
+    (same_wanted image p.2.read q.2.read c.trailer c.trailer_checksum p.0 p.1 q.0 q.1 p.2.arrives q.2.arrives p.3 q.3) ∙ sym q.4
 trailer_one sh image c x y (inl p) (inr (inl q)) = absurd (p.3 (q.0 p.0 p.1 p.2))
 trailer_one sh image c x y (inl p) (inr (inr q)) = absurd (p.3 (readable_reads sh image q.0 p.0 p.1 q.2 (rw (sym q.1) at p.2)))
 trailer_one sh image c x y (inr (inl p)) (inl q) = absurd (q.3 (p.0 q.0 q.1 q.2))
@@ -181,7 +201,8 @@ trailer_one sh image c x y (inr (inl p)) (inr (inl q)) = p.2 ∙ sym q.2
 trailer_one sh image c x y (inr (inl p)) (inr (inr q)) = absurd (p.1 q.0 q.1 q.2)
 trailer_one sh image c x y (inr (inr p)) (inl q) = absurd (q.3 (readable_reads sh image p.0 q.0 q.1 p.2 (rw (sym p.1) at q.2)))
 trailer_one sh image c x y (inr (inr p)) (inr (inl q)) = absurd (q.1 p.0 p.1 p.2)
-trailer_one sh image c x y (inr (inr p)) (inr (inr q)) = traces_one sh image p.0 x y p.2.sound.tests.pin.0 p.3 (rw (readable_one sh image q.0 p.0 q.2 p.2) at q.3)
+trailer_one sh image c x y (inr (inr p)) (inr (inr q)) =
+    traces_one sh image p.0 x y p.2.sound.tests.pin.0 p.3 (rw (readable_one sh image q.0 p.0 q.2 p.2) at q.3)
 
 fields_one : (sh : Shape) (image : Units) (c : Content) (x y : OpenAnswer) → AnswersFields sh image c x → AnswersFields sh image c y → x ≡ y
 fields_one sh image c x y (inl p) (inl q) = p.1 ∙ sym q.1
@@ -216,17 +237,20 @@ to_state sh image b tail n w readable not_behind is_tail not_lost counted base s
 to_found : (sh : Shape) (image : Units) (v : View) → Answers sh image (Found v) → IsFound sh image v × (boot_of v < 2 ^ 62)
 to_found sh image v (inl p) = absurd (let both : Found v ≡ Refused NoQuorum = p.1 in cc)
 to_found sh image v (inr (c, chosen, inl p)) = absurd (let both : Found v ≡ Refused BadField = p.1 in cc)
-to_found sh image v (inr (c, chosen, inr (tests, reference, inl p))) = absurd (let both : Found v ≡ Refused (Damaged (BlockPlace p.0)) = p.4 in cc)
+to_found sh image v (inr (c, chosen, inr (tests, reference, inl p))) =
+    absurd (let both : Found v ≡ Refused (Damaged (BlockPlace p.0)) = p.4 in cc)
 to_found sh image v (inr (c, chosen, inr (tests, reference, inr (inl p)))) = absurd (let both : Found v ≡ Refused BadField = p.2 in cc)
-to_found sh image v (inr (c, chosen, inr (tests, reference, inr (inr (b, content, readable, inl p))))) = absurd (let both : Found v ≡ Refused (Damaged (CopyPlace p.0)) = p.3 in cc)
-to_found sh image v (inr (c, chosen, inr (tests, reference, inr (inr (b, content, readable, inr (not_behind, inl p)))))) = absurd (let both : Found v ≡ Refused (Damaged (PreparePlace (p.0 % sh.layout.slots))) = p.2 in cc)
-to_found sh image v (inr (c, chosen, inr (tests, reference, inr (inr (b, content, readable, inr (not_behind, inr (inl p))))))) = absurd (let both : Found v ≡ Refused (Damaged (PreparePlace ((b.content.op + length p.0 + 1) % sh.layout.slots))) = p.2 in cc)
+to_found sh image v (inr (c, chosen, inr (tests, reference, inr (inr (b, content, readable, inl p))))) =
+    absurd (let both : Found v ≡ Refused (Damaged (CopyPlace p.0)) = p.3 in cc)
+to_found sh image v (inr (c, chosen, inr (tests, reference, inr (inr (b, content, readable, inr (not_behind, inl p)))))) =
+    absurd (let both : Found v ≡ Refused (Damaged (PreparePlace (p.0 % sh.layout.slots))) = p.2 in cc)
+to_found sh image v (inr (c, chosen, inr (tests, reference, inr (inr (b, content, readable, inr (not_behind, inr (inl p))))))) =
+    absurd (let both : Found v ≡ Refused (Damaged (PreparePlace ((b.content.op + length p.0 + 1) % sh.layout.slots))) = p.2 in cc)
 to_found sh image v (inr (c, chosen, inr (tests, reference, inr (inr (b, content, readable, inr (not_behind, inr (inr (tail, is_tail, inl p)))))))) = absurd (let both : Found v ≡ Refused (Damaged (PreparePlace (slot_behind sh b tail p.1.0))) = p.1.2 in cc)
 to_found sh image v (inr (c, chosen, inr (tests, reference, inr (inr (b, content, readable, inr (not_behind, inr (inr (tail, is_tail, inr (not_lost, (n, counted, inl p)))))))))) = absurd (let both : Found v ≡ Refused (Damaged (ReplyPlace p.0)) = p.2 in cc)
 to_found sh image v (inr (c, chosen, inr (tests, reference, inr (inr (b, content, readable, inr (not_behind, inr (inr (tail, is_tail, inr (not_lost, (n, counted, inr (w, base, same, count, stored, is)))))))))))
     = elim is [
-      | inl p ↦
-          let one : w ≡ v = (let both : Found v ≡ Found w = p.1 in let back : w ≡ v = cc in back) in
+      | inl p ↦ let one : w ≡ v = (let both : Found v ≡ Found w = p.1 in let back : w ≡ v = cc in back) in
           rw (← one) (to_state sh image b tail n w readable not_behind is_tail not_lost counted base same count stored, p.0)
       | inr p ↦ absurd (let both : Found v ≡ Refused BootSpent = p.1 in cc)
     ]
@@ -237,11 +261,15 @@ found_answer_law sh image v = (λ opens. to_found sh image v (answers_of sh imag
 to_spent : (sh : Shape) (image : Units) → Answers sh image (Refused BootSpent) → (v : View) × IsFound sh image v × (boot_of v ≡ 2 ^ 62)
 to_spent sh image (inl p) = absurd (let both : Refused BootSpent ≡ Refused NoQuorum = p.1 in cc)
 to_spent sh image (inr (c, chosen, inl p)) = absurd (let both : Refused BootSpent ≡ Refused BadField = p.1 in cc)
-to_spent sh image (inr (c, chosen, inr (tests, reference, inl p))) = absurd (let both : Refused BootSpent ≡ Refused (Damaged (BlockPlace p.0)) = p.4 in cc)
+to_spent sh image (inr (c, chosen, inr (tests, reference, inl p))) =
+    absurd (let both : Refused BootSpent ≡ Refused (Damaged (BlockPlace p.0)) = p.4 in cc)
 to_spent sh image (inr (c, chosen, inr (tests, reference, inr (inl p)))) = absurd (let both : Refused BootSpent ≡ Refused BadField = p.2 in cc)
-to_spent sh image (inr (c, chosen, inr (tests, reference, inr (inr (b, content, readable, inl p))))) = absurd (let both : Refused BootSpent ≡ Refused (Damaged (CopyPlace p.0)) = p.3 in cc)
-to_spent sh image (inr (c, chosen, inr (tests, reference, inr (inr (b, content, readable, inr (not_behind, inl p)))))) = absurd (let both : Refused BootSpent ≡ Refused (Damaged (PreparePlace (p.0 % sh.layout.slots))) = p.2 in cc)
-to_spent sh image (inr (c, chosen, inr (tests, reference, inr (inr (b, content, readable, inr (not_behind, inr (inl p))))))) = absurd (let both : Refused BootSpent ≡ Refused (Damaged (PreparePlace ((b.content.op + length p.0 + 1) % sh.layout.slots))) = p.2 in cc)
+to_spent sh image (inr (c, chosen, inr (tests, reference, inr (inr (b, content, readable, inl p))))) =
+    absurd (let both : Refused BootSpent ≡ Refused (Damaged (CopyPlace p.0)) = p.3 in cc)
+to_spent sh image (inr (c, chosen, inr (tests, reference, inr (inr (b, content, readable, inr (not_behind, inl p)))))) =
+    absurd (let both : Refused BootSpent ≡ Refused (Damaged (PreparePlace (p.0 % sh.layout.slots))) = p.2 in cc)
+to_spent sh image (inr (c, chosen, inr (tests, reference, inr (inr (b, content, readable, inr (not_behind, inr (inl p))))))) =
+    absurd (let both : Refused BootSpent ≡ Refused (Damaged (PreparePlace ((b.content.op + length p.0 + 1) % sh.layout.slots))) = p.2 in cc)
 to_spent sh image (inr (c, chosen, inr (tests, reference, inr (inr (b, content, readable, inr (not_behind, inr (inr (tail, is_tail, inl p)))))))) = absurd (let both : Refused BootSpent ≡ Refused (Damaged (PreparePlace (slot_behind sh b tail p.1.0))) = p.1.2 in cc)
 to_spent sh image (inr (c, chosen, inr (tests, reference, inr (inr (b, content, readable, inr (not_behind, inr (inr (tail, is_tail, inr (not_lost, (n, counted, inl p)))))))))) = absurd (let both : Refused BootSpent ≡ Refused (Damaged (ReplyPlace p.0)) = p.2 in cc)
 to_spent sh image (inr (c, chosen, inr (tests, reference, inr (inr (b, content, readable, inr (not_behind, inr (inr (tail, is_tail, inr (not_lost, (n, counted, inr (w, base, same, count, stored, is)))))))))))

@@ -32,17 +32,18 @@ pub distinct : (x y : AnyUnit) → IsOurs x → IsOurs y → Distinct x y
 distinct = distinct_of IsOurs told
 
 -- units of the pools of such a log
-pub distinct_in : (log : UnitLog) → All IsOurs log.start log.events → (place other : Place) (x y : AnyUnit) → InPools log.start log.events place x → InPools log.start log.events other y → Distinct x y
-distinct_in log all place other x y one two = distinct x y (pools_all IsOurs log.start log.events all place x one) (pools_all IsOurs log.start log.events all other y two)
+pub distinct_in : (log : UnitLog) → All IsOurs log.start log.events
+    → (place other : Place) (x y : AnyUnit) → InPools log.start log.events place x → InPools log.start log.events other y → Distinct x y
+distinct_in log all place other x y one two =
+    distinct x y (pools_all IsOurs log.start log.events all place x one) (pools_all IsOurs log.start log.events all other y two)
 
 pub log1_all : All IsOurs log1.start log1.events
-log1_all =
-    let a : All IsOurs made.start (add Synced (wrote (prepare_put prepare1) made)).events = put_all IsOurs (PreparePlace 1) (PrepareUnit prepare1) made (refl, refl) (made_all IsOurs content1 refl refl) in
+log1_all = let a : All IsOurs made.start (add Synced (wrote (prepare_put prepare1) made)).events =
+    put_all IsOurs (PreparePlace 1) (PrepareUnit prepare1) made (refl, refl) (made_all IsOurs content1 refl refl) in
     put_all IsOurs (HeaderPlace 1) (HeaderUnit prepare1.header) (add Synced (wrote (prepare_put prepare1) made)) refl a
 
 pub log4_all : All IsOurs log4.start log4.events
-log4_all =
-    let l2 : UnitLog = add Synced (wrote put2 log1) in
+log4_all = let l2 : UnitLog = add Synced (wrote put2 log1) in
     let a2 : All IsOurs l2.start l2.events = put_all IsOurs (ReplyPlace 0) (ReplyUnit reply1) log1 refl log1_all in
     let l3 : UnitLog = wrote (put_block 2 block) l2 in
     let a3 : All IsOurs l3.start l3.events = put_all IsOurs (BlockPlace 2) (BlockUnit block) l2 refl a2 in

@@ -23,6 +23,7 @@ put_one_law place x = record {
   only = λ other y is. go other y (same_place place other) refl is;
 }
   where
-    go : (other : Place) (y : AnyUnit) (b : Bool) → same_place place other ≡ b → (if b then Some x else None) ≡ Some y → (other ≡ place) × (y ≡ x)
+    go : (other : Place) (y : AnyUnit) (b : Bool)
+        → same_place place other ≡ b → (if b then Some x else None) ≡ Some y → (other ≡ place) × (y ≡ x)
     go other y true test is = (same_is place other test, let both : Some x ≡ Some y = is in cc)
     go other y false test is = absurd (let both : None ≡ Some y = is in cc)

@@ -17,9 +17,11 @@ block_in_view v (ReplyPlace k) x block = absurd block
 block_in_view v (BlockPlace a) x block = tt
 
 -- the write itself is one that is torn nowhere
-overlay_at : (sh : Shape) (log : UnitLog) (v : View) (put : Units) (place : Place) → (o : Option AnyUnit) → put place ≡ o → Tear sh log v put (overlay put (now log)) place
+overlay_at : (sh : Shape) (log : UnitLog) (v : View) (put : Units) (place : Place)
+    → (o : Option AnyUnit) → put place ≡ o → Tear sh log v put (overlay put (now log)) place
 overlay_at sh log v put place None is = Kept is (ap (λ (o : Option AnyUnit). or_else o (now log place)) is)
-overlay_at sh log v put place (Some y) is = Touched y is (λ x shown. inr (let one : Some x ≡ Some y = sym shown ∙ ap (λ (o : Option AnyUnit). or_else o (now log place)) is in cc))
+overlay_at sh log v put place (Some y) is =
+    Touched y is (λ x shown. inr (let one : Some x ≡ Some y = sym shown ∙ ap (λ (o : Option AnyUnit). or_else o (now log place)) is in cc))
 
 pub overlay_torn : (sh : Shape) (log : UnitLog) (v : View) (put : Units) → Torn sh log v put (overlay put (now log))
 overlay_torn sh log v put place = overlay_at sh log v put place (put place) refl
@@ -64,7 +66,8 @@ module _ (sh : Shape) (log : UnitLog) (v : View) (put : Units) (rest : RestsOn s
   }
 
   pub calm_step : Stepped sh log put v v
-  calm_step = step sh log v put rest v (goes_same (settled log) v) (λ j torn. inl (calm_torn j torn)) (calm_torn (overlay put (now log)) (overlay_torn sh log v put))
+  calm_step = step sh log v put rest v (goes_same (settled log) v) (λ j torn.
+      inl (calm_torn j torn)) (calm_torn (overlay put (now log)) (overlay_torn sh log v put))
 
   -- it may stay loose
   pub calm_stays : RestsOn sh (wrote put log) v
@@ -88,7 +91,8 @@ pub record IsOneStep (sh : Shape) (v u : View) (place : Place) (x : AnyUnit) : T
   pub history : InView u place x
   pub needs : (other : Place) (y : AnyUnit) → Needs sh u other y → Needs sh v other y ⊎ ((other ≡ place) × (y ≡ x))
 
-module _ (sh : Shape) (log : UnitLog) (v u : View) (put : Units) (place : Place) (x : AnyUnit) (rest : RestsOn sh log v) (quiet : IsQuiet log) (one : PutsOne put place x) (leads : IsOneStep sh v u place x) where
+module _ (sh : Shape) (log : UnitLog) (v u : View) (put : Units) (place : Place)
+    (x : AnyUnit) (rest : RestsOn sh log v) (quiet : IsQuiet log) (one : PutsOne put place x) (leads : IsOneStep sh v u place x) where
   one_copy : (j : Units) (n : ℕ) → Tear sh log v put j (CopyPlace n) → j (CopyPlace n) ≡ now log (CopyPlace n)
   one_copy j n (Kept none same) = same
   one_copy j n (Loose wet place_calm shows) = absurd (place_calm.no_copy tt)
@@ -103,31 +107,31 @@ module _ (sh : Shape) (log : UnitLog) (v u : View) (put : Units) (place : Place)
   one_short j torn = short_same sh (now log) j v (λ s. one_prepare j s (torn (PreparePlace s))) rest.holds.short
 
   -- it didn't take
-  before_at : (j : Units) → ((y : AnyUnit) → j place ≡ Some y → Agrees sh v place y) → (other : Place) → Tear sh log v put j other → (j other ≡ now log other) ⊎ IsOpen sh v j other
+  before_at : (j : Units) → ((y : AnyUnit) → j place ≡ Some y → Agrees sh v place y)
+      → (other : Place) → Tear sh log v put j other → (j other ≡ now log other) ⊎ IsOpen sh v j other
   before_at j old other (Kept none same) = inl same
-  before_at j old other (Loose wet place_calm shows) = inr (record { needless = place_calm.needless; agrees = λ y shown. block_agrees sh v other y (quiet other wet) })
+  before_at j old other (Loose wet place_calm shows) =
+      inr (record { needless = place_calm.needless; agrees = λ y shown. block_agrees sh v other y (quiet other wet) })
   before_at j old other (Touched y is shows) = inr (rw ((one.only other y is).0) (record { needless = leads.needless; agrees = old }))
 
-  one_before : (j : Units) → Torn sh log v put j → ((y : AnyUnit) → j place ≡ Some y → InImages (settled log) place y × Agrees sh v place y) → TornView sh log v put j v
+  one_before : (j : Units) → Torn sh log v put j
+      → ((y : AnyUnit) → j place ≡ Some y → InImages (settled log) place y × Agrees sh v place y) → TornView sh log v put j v
   one_before j torn old = record {
     holds = record { bears = bears_open sh v (now log) j rest.holds.bears (λ other. before_at j (λ y shown. (old y shown).1) other (torn other)); chosen = chosen_same (now log) j v.checkpoint.content (λ n. one_copy j n (torn (CopyPlace n))) rest.holds.chosen; short = one_short j torn };
     history = λ other y is shown. elim is [
       | inl may ↦ may.1.history
-      | inr new ↦
-          let at = (one.only other y new).0 in
-          inl (rw (sym at) at (old y (ap j (sym at) ∙ shown)).0)
+      | inr new ↦ let at = (one.only other y new).0 in inl (rw (sym at) at (old y (ap j (sym at) ∙ shown)).0)
     ];
   }
 
   -- it took
   after_agrees : (j : Units) (other : Place) (y : AnyUnit) → j other ≡ Some y → Tear sh log v put j other → Agrees sh u other y
-  after_agrees j other y shown (Kept none same) = agrees_grew sh v u leads.grew other y (inl leads.head_is) (rest.holds.bears.agrees other y (sym same ∙ shown))
+  after_agrees j other y shown (Kept none same) =
+      agrees_grew sh v u leads.grew other y (inl leads.head_is) (rest.holds.bears.agrees other y (sym same ∙ shown))
   after_agrees j other y shown (Loose wet place_calm shows) = block_agrees sh u other y (quiet other wet)
   after_agrees j other y shown (Touched z is shows) = elim (shows y shown) [
     | inl old ↦ agrees_grew sh v u leads.grew other y (inl leads.head_is) old.1
-    | inr new ↦
-        let at = one.only other z is in
-        rw (sym at.0) at (rw (sym (new ∙ at.1)) at leads.agrees)
+    | inr new ↦ let at = one.only other z is in rw (sym at.0) at (rw (sym (new ∙ at.1)) at leads.agrees)
   ]
 
   after_old : (j : Units) (other : Place) (y : AnyUnit) → Needs sh v other y → Tear sh log v put j other → j other ≡ Some y
@@ -145,18 +149,18 @@ module _ (sh : Shape) (log : UnitLog) (v u : View) (put : Units) (place : Place)
   one_after j torn shown = record {
     holds = record {
       bears = record { sound = leads.sound; agrees = λ other y is. after_agrees j other y is (torn other); needs = after_needs j torn shown };
-      chosen = rw (sym leads.checkpoint) at (chosen_same (now log) j v.checkpoint.content (λ n. one_copy j n (torn (CopyPlace n))) rest.holds.chosen);
+      chosen = rw (sym leads.checkpoint) at
+          (chosen_same (now log) j v.checkpoint.content (λ n. one_copy j n (torn (CopyPlace n))) rest.holds.chosen);
       short = leads.short j (one_short j torn);
     };
     history = λ other y is there. elim is [
       | inl may ↦ inr (block_in_view u other y (quiet other may.0))
-      | inr new ↦
-          let at = one.only other y new in
-          inr (rw (sym at.0) at (rw (sym at.1) at leads.history))
+      | inr new ↦ let at = one.only other y new in inr (rw (sym at.0) at (rw (sym at.1) at leads.history))
     ];
   }
 
-  one_cases : (j : Units) → Tear sh log v put j place → (o : Option AnyUnit) → j place ≡ o → ((y : AnyUnit) → j place ≡ Some y → InImages (settled log) place y × Agrees sh v place y) ⊎ (j place ≡ Some x)
+  one_cases : (j : Units) → Tear sh log v put j place → (o : Option AnyUnit)
+      → j place ≡ o → ((y : AnyUnit) → j place ≡ Some y → InImages (settled log) place y × Agrees sh v place y) ⊎ (j place ≡ Some x)
   one_cases j tear None is = inl (λ y shown. absurd (let no_unit : None ≡ Some y = sym is ∙ shown in cc))
   one_cases j (Kept none same) (Some y) is = absurd (let no_unit : Some x ≡ None = sym one.at ∙ none in cc)
   one_cases j (Loose wet place_calm shows) (Some y) is = absurd (leads.no_block (quiet place wet))
@@ -172,4 +176,5 @@ module _ (sh : Shape) (log : UnitLog) (v u : View) (put : Units) (place : Place)
   ]
 
   pub one_step : Stepped sh log put v u
-  one_step = step sh log v put rest u (record { next = leads.next; clear = inl (leads.checkpoint, leads.tail) }) one_torn (one_after (overlay put (now log)) (overlay_torn sh log v put) (ap (λ (o : Option AnyUnit). or_else o (now log place)) one.at))
+  one_step = step sh log v put rest u (record { next = leads.next; clear = inl (leads.checkpoint, leads.tail) }) one_torn
+      (one_after (overlay put (now log)) (overlay_torn sh log v put) (ap (λ (o : Option AnyUnit). or_else o (now log place)) one.at))

@@ -8,8 +8,10 @@ pub record IsFirm (log : UnitLog) (place : Place) (o : Option AnyUnit) : Type 0 
   pub dry : loose log place ≡ false
   pub shows : now log place ≡ o
 
-firm_wrote : (log : UnitLog) (put : Units) (place : Place) (o : Option AnyUnit) → put place ≡ None → IsFirm log place o → IsFirm (wrote put log) place o
-firm_wrote log put place o none firm = record { dry = (λ i. is_some (none i) || firm.dry i); shows = ap (λ (u : Option AnyUnit). or_else u (now log place)) none ∙ firm.shows }
+firm_wrote : (log : UnitLog) (put : Units) (place : Place) (o : Option AnyUnit)
+    → put place ≡ None → IsFirm log place o → IsFirm (wrote put log) place o
+firm_wrote log put place o none firm =
+    record { dry = (λ i. is_some (none i) || firm.dry i); shows = ap (λ (u : Option AnyUnit). or_else u (now log place)) none ∙ firm.shows }
 
 firm_synced : (log : UnitLog) (place : Place) (o : Option AnyUnit) → now log place ≡ o → IsFirm (add Synced log) place o
 firm_synced log place o shown = record { dry = refl; shows = shown }
@@ -50,7 +52,8 @@ module _ (image : Units) (table : ℕ → Header) where
         pooled place x (inl (inr none)) = absurd none
         pooled place x (inr none) = absurd none
 
-    pub moment_wrote : (put : Units) (log : UnitLog) → ((place : Place) (x : AnyUnit) → put place ≡ Some x → IsAllowed image table More place x) → ((place : Place) → IsBody place → put place ≡ None) → IsMoment More log → IsMoment More (wrote put log)
+    pub moment_wrote : (put : Units) (log : UnitLog) → ((place : Place) (x : AnyUnit) → put place ≡ Some x → IsAllowed
+        image table More place x) → ((place : Place) → IsBody place → put place ≡ None) → IsMoment More log → IsMoment More (wrote put log)
     moment_wrote put log allowed spares moment = record { pooled = pooled; shown = λ place x is. shown place x (put place) refl is; body = λ place of. firm_wrote log put place (image place) (spares place of) (moment.body place of) }
       where
         pooled : (place : Place) (x : AnyUnit) → InPool (wrote put log) place x → IsAllowed image table More place x
@@ -58,7 +61,8 @@ module _ (image : Units) (table : ℕ → Header) where
         pooled place x (inr (inl new)) = allowed place x new
         pooled place x (inr (inr old)) = moment.pooled place x (inr old)
 
-        shown : (place : Place) (x : AnyUnit) (o : Option AnyUnit) → put place ≡ o → overlay put (now log) place ≡ Some x → IsAllowed image table More place x
+        shown : (place : Place) (x : AnyUnit) (o : Option AnyUnit)
+            → put place ≡ o → overlay put (now log) place ≡ Some x → IsAllowed image table More place x
         shown place x None none is = moment.shown place x (ap (λ (o : Option AnyUnit). or_else o (now log place)) (sym none) ∙ is)
         shown place x (Some y) some is = allowed place x (some ∙ ap (λ (o : Option AnyUnit). or_else o (now log place)) (sym some) ∙ is)
 
@@ -78,7 +82,8 @@ module _ (image : Units) (table : ℕ → Header) where
         spares place of None none = none
         spares place of (Some y) some = absurd (subst IsBody (puts place y some).1 of)
 
-    pub moment_copy : (put : Units) (log : UnitLog) (k : ℕ) (e : Content) → PutsOne put (CopyPlace k) (CopyUnit e) → More k e → IsMoment More log → IsMoment More (wrote put log)
+    pub moment_copy : (put : Units) (log : UnitLog) (k : ℕ) (e : Content)
+        → PutsOne put (CopyPlace k) (CopyUnit e) → More k e → IsMoment More log → IsMoment More (wrote put log)
     moment_copy put log k e one more moment = moment_wrote put log
         (λ place x is. let at = one.only place x is in rw at.0 (inr (e, at.1, more)))
         (λ place of. miss put (CopyPlace k) place (CopyUnit e) one (λ same. subst IsBody same of)) moment
@@ -86,7 +91,8 @@ module _ (image : Units) (table : ℕ → Header) where
     pub moment_left : (log : UnitLog) (j : Units) → IsMoment More log → IsLeftBy log j → NoChance log j → IsAfter image table j
     moment_left log j moment left chance = record { body = λ place of. firm_left log place (image place) j (moment.body place of) left; headers = λ s x is. moment.pooled (HeaderPlace s) x (chance.pooled (HeaderPlace s) x is) }
 
-  pub moment_weaker : (More Most : ℕ → Content → Type 0) → ((n : ℕ) (e : Content) → More n e → Most n e) → (log : UnitLog) → IsMoment More log → IsMoment Most log
+  pub moment_weaker : (More Most : ℕ → Content → Type 0)
+      → ((n : ℕ) (e : Content) → More n e → Most n e) → (log : UnitLog) → IsMoment More log → IsMoment Most log
   moment_weaker More Most weaker log moment = record { pooled = λ place x at. weak place x (moment.pooled place x at); shown = λ place x is. weak place x (moment.shown place x is); body = moment.body }
     where
       weak : (place : Place) (x : AnyUnit) → IsAllowed image table More place x → IsAllowed image table Most place x
@@ -119,33 +125,36 @@ module _ (image : Units) (table : ℕ → Header) where
       second = firm_wrote log put (CopyPlace n) (Some (CopyUnit c)) (no_copy table put puts n) is.second;
     }
 
-    restoring_copy : (k : ℕ) (put : Units) (log : UnitLog) → PutsOne put (CopyPlace k) (CopyUnit c) → (m ≡ k → ⊥) → (n ≡ k → ⊥) → IsRestoring log → IsRestoring (wrote put log)
+    restoring_copy : (k : ℕ) (put : Units) (log : UnitLog)
+        → PutsOne put (CopyPlace k) (CopyUnit c) → (m ≡ k → ⊥) → (n ≡ k → ⊥) → IsRestoring log → IsRestoring (wrote put log)
     restoring_copy k put log one no_m no_n is = record {
       moment = moment_copy IsChoice put log k c one refl is.moment;
-      first = firm_wrote log put (CopyPlace m) (Some (CopyUnit c)) (miss put (CopyPlace k) (CopyPlace m) (CopyUnit c) one (apart m k no_m)) is.first;
-      second = firm_wrote log put (CopyPlace n) (Some (CopyUnit c)) (miss put (CopyPlace k) (CopyPlace n) (CopyUnit c) one (apart n k no_n)) is.second;
+      first = firm_wrote
+          log put (CopyPlace m) (Some (CopyUnit c)) (miss put (CopyPlace k) (CopyPlace m) (CopyUnit c) one (apart m k no_m)) is.first;
+      second = firm_wrote
+          log put (CopyPlace n) (Some (CopyUnit c)) (miss put (CopyPlace k) (CopyPlace n) (CopyUnit c) one (apart n k no_n)) is.second;
     }
 
-    restoring_puts : (puts : List Units) (log : UnitLog) → AllPutTable table puts → IsRestoring log → AtEach IsRestoring log (all_puts puts) × IsRestoring (after_steps (all_puts puts) log)
+    restoring_puts : (puts : List Units) (log : UnitLog)
+        → AllPutTable table puts → IsRestoring log → AtEach IsRestoring log (all_puts puts) × IsRestoring (after_steps (all_puts puts) log)
     restoring_puts [] log all is = (is, is)
-    restoring_puts (put ∷ puts) log all is =
-        let rest = restoring_puts puts (wrote put log) all.1 (restoring_table put log all.0 is) in
+    restoring_puts (put ∷ puts) log all is = let rest = restoring_puts puts (wrote put log) all.1 (restoring_table put log all.0 is) in
         ((is, rest.0), rest.1)
 
-    pub restoring_headers : (puts : List Units) (log : UnitLog) → AllPutTable table puts → IsRestoring log → AtEach IsRestoring log (header_steps puts) × IsRestoring (after_steps (header_steps puts) log)
+    pub restoring_headers : (puts : List Units) (log : UnitLog) → AllPutTable table puts
+        → IsRestoring log → AtEach IsRestoring log (header_steps puts) × IsRestoring (after_steps (header_steps puts) log)
     restoring_headers [] log all is = (is, is)
-    restoring_headers (put ∷ puts) log all is =
-        let written = restoring_puts (put ∷ puts) log all is in
+    restoring_headers (put ∷ puts) log all is = let written = restoring_puts (put ∷ puts) log all is in
         let after : UnitLog = after_steps (all_puts (put ∷ puts)) log in
         let synced : IsRestoring (add Synced after) = restoring_synced after written.1 in (
           each_append IsRestoring (all_puts (put ∷ puts)) (Syncs ∷ []) log written.0 (written.1, synced),
           subst IsRestoring (sym (after_append (all_puts (put ∷ puts)) (Syncs ∷ []) log)) synced,
         )
 
-    pub restoring_copies : (ks : List (ℕ × Units)) (log : UnitLog) → AllPutCopy c m n ks → IsRestoring log → AtEach IsRestoring log (copy_steps ks) × IsRestoring (after_steps (copy_steps ks) log)
+    pub restoring_copies : (ks : List (ℕ × Units)) (log : UnitLog)
+        → AllPutCopy c m n ks → IsRestoring log → AtEach IsRestoring log (copy_steps ks) × IsRestoring (after_steps (copy_steps ks) log)
     restoring_copies [] log all is = (is, is)
-    restoring_copies (k ∷ ks) log all is =
-        let one = restoring_copy k.0 k.1 log all.0 all.1 all.2 is in
+    restoring_copies (k ∷ ks) log all is = let one = restoring_copy k.0 k.1 log all.0 all.1 all.2 is in
         let rest = restoring_copies ks (add Synced (wrote k.1 log)) all.3 (restoring_synced (wrote k.1 log) one) in
         ((is, (one, rest.0)), rest.1)
 
@@ -162,26 +171,29 @@ module _ (image : Units) (table : ℕ → Header) where
       pub high : (n : ℕ) → k < n → n < 4 → IsFirm log (CopyPlace n) (Some (CopyUnit c))
 
     missed_copy : (put : Units) (k n : ℕ) → PutsOne put (CopyPlace k) (CopyUnit d) → (n ≡ k → ⊥) → put (CopyPlace n) ≡ None
-    missed_copy put k n one differ = miss put (CopyPlace k) (CopyPlace n) (CopyUnit d) one (λ same. differ (let at : CopyPlace n ≡ CopyPlace k = same in cc))
+    missed_copy put k n one differ =
+        miss put (CopyPlace k) (CopyPlace n) (CopyUnit d) one (λ same. differ (let at : CopyPlace n ≡ CopyPlace k = same in cc))
 
-    pub raising_wrote : (put : Units) (log : UnitLog) (k : ℕ) → k < 4 → PutsOne put (CopyPlace k) (CopyUnit d) → IsRaising log k → IsRaising (wrote put log) k
+    pub raising_wrote : (put : Units) (log : UnitLog) (k : ℕ)
+        → k < 4 → PutsOne put (CopyPlace k) (CopyUnit d) → IsRaising log k → IsRaising (wrote put log) k
     raising_wrote put log k below one is = record {
       moment = moment_copy IsEither put log k d one (inr (below, refl)) is.moment;
       low = λ n less. firm_wrote log put (CopyPlace n) (Some (CopyUnit d)) (missed_copy put k n one (λ same. omega arith)) (is.low n less);
-      high = λ n more inside. firm_wrote log put (CopyPlace n) (Some (CopyUnit c)) (missed_copy put k n one (λ same. omega arith)) (is.high n more inside);
+      high = λ n more inside.
+          firm_wrote log put (CopyPlace n) (Some (CopyUnit c)) (missed_copy put k n one (λ same. omega arith)) (is.high n more inside);
     }
 
-    pub raising_synced : (put : Units) (log : UnitLog) (k : ℕ) → k < 4 → PutsOne put (CopyPlace k) (CopyUnit d) → IsRaising log k → IsRaising (add Synced (wrote put log)) (k + 1)
-    raising_synced put log k below one is =
-        let w = raising_wrote put log k below one is in
-        record {
-          moment = moment_synced IsEither (wrote put log) w.moment;
-          low = λ n less. firm_synced (wrote put log) (CopyPlace n) (Some (CopyUnit d)) (elim (cases_eq n k) [
-            | inl here ↦ ap (λ (i : ℕ). overlay put (now log) (CopyPlace i)) here ∙ ap (λ (o : Option AnyUnit). or_else o (now log (CopyPlace k))) one.at
-            | inr away ↦ (w.low n (omega arith)).shows
-          ]);
-          high = λ n more inside. firm_synced (wrote put log) (CopyPlace n) (Some (CopyUnit c)) (w.high n (omega arith) inside).shows;
-        }
+    pub raising_synced : (put : Units) (log : UnitLog) (k : ℕ)
+        → k < 4 → PutsOne put (CopyPlace k) (CopyUnit d) → IsRaising log k → IsRaising (add Synced (wrote put log)) (k + 1)
+    raising_synced put log k below one is = let w = raising_wrote put log k below one is in record {
+      moment = moment_synced IsEither (wrote put log) w.moment;
+      low = λ n less. firm_synced (wrote put log) (CopyPlace n) (Some (CopyUnit d)) (elim (cases_eq n k) [
+        | inl here ↦
+            ap (λ (i : ℕ). overlay put (now log) (CopyPlace i)) here ∙ ap (λ (o : Option AnyUnit). or_else o (now log (CopyPlace k))) one.at
+        | inr away ↦ (w.low n (omega arith)).shows
+      ]);
+      high = λ n more inside. firm_synced (wrote put log) (CopyPlace n) (Some (CopyUnit c)) (w.high n (omega arith) inside).shows;
+    }
 
     pub raising_stage : (log : UnitLog) (k : ℕ) (j : Units) → IsRaising log k → IsLeftBy log j → IsStage j c d k
     raising_stage log k j is left = record {
@@ -190,11 +202,10 @@ module _ (image : Units) (table : ℕ → Header) where
     }
 
     -- at each moment of the four copies
-    pub each_raising : (Moment : UnitLog → Type 0) → ((log : UnitLog) (k : ℕ) → IsRaising log k → Moment log) → (puts : PutsCopies d) (log : UnitLog) → IsRaising log 0 → AtEach Moment log (update_steps puts) × IsRaising (after_steps (update_steps puts) log) 4
-    each_raising Moment holds puts log is0 =
-        let log1 : UnitLog = add Synced (wrote puts.put0 log) in
-        let log2 : UnitLog = add Synced (wrote puts.put1 log1) in
-        let log3 : UnitLog = add Synced (wrote puts.put2 log2) in
+    pub each_raising : (Moment : UnitLog → Type 0) → ((log : UnitLog) (k : ℕ) → IsRaising log k → Moment log) → (puts : PutsCopies d)
+        (log : UnitLog) → IsRaising log 0 → AtEach Moment log (update_steps puts) × IsRaising (after_steps (update_steps puts) log) 4
+    each_raising Moment holds puts log is0 = let log1 : UnitLog = add Synced (wrote puts.put0 log) in
+        let log2 : UnitLog = add Synced (wrote puts.put1 log1) in let log3 : UnitLog = add Synced (wrote puts.put2 log2) in
         let log4 : UnitLog = add Synced (wrote puts.put3 log3) in
         let is1 : IsRaising log1 1 = raising_synced puts.put0 log 0 (omega arith) puts.one0 is0 in
         let is2 : IsRaising log2 2 = raising_synced puts.put1 log1 1 (omega arith) puts.one1 is1 in
@@ -224,12 +235,14 @@ module _ (image : Units) (table : ℕ → Header) where
 
 -- ---- whether copy 1 shows the new content
 
-pools_of : (start : Units) (events : List UnitEvent) (place : Place) (x : AnyUnit) → InPool (record { start = start; events = events }) place x → InPools start events place x
+pools_of : (start : Units) (events : List UnitEvent) (place : Place) (x : AnyUnit)
+    → InPool (record { start = start; events = events }) place x → InPools start events place x
 pools_of start [] place x at = at
 pools_of start (e ∷ es) place x at = inl at
 
 -- of two contents that an image shows, one checksum makes one content
-pub shows_or_not : (log : UnitLog) (j : Units) (m n : ℕ) (d : Content) → NoChance log j → j (CopyPlace m) ≡ Some (CopyUnit d) → (j (CopyPlace n) ≡ Some (CopyUnit d)) ⊎ (j (CopyPlace n) ≡ Some (CopyUnit d) → ⊥)
+pub shows_or_not : (log : UnitLog) (j : Units) (m n : ℕ) (d : Content) → NoChance log j
+    → j (CopyPlace m) ≡ Some (CopyUnit d) → (j (CopyPlace n) ≡ Some (CopyUnit d)) ⊎ (j (CopyPlace n) ≡ Some (CopyUnit d) → ⊥)
 shows_or_not log j m n d chance there = go (j (CopyPlace n)) refl
   where
     go : (o : Option AnyUnit) → j (CopyPlace n) ≡ o → (j (CopyPlace n) ≡ Some (CopyUnit d)) ⊎ (j (CopyPlace n) ≡ Some (CopyUnit d) → ⊥)
@@ -239,12 +252,12 @@ shows_or_not log j m n d chance there = go (j (CopyPlace n)) refl
     go (Some (ReplyUnit r)) is = inr (λ shown. let both : Some (ReplyUnit r) ≡ Some (CopyUnit d) = sym is ∙ shown in cc)
     go (Some (BlockUnit b)) is = inr (λ shown. let both : Some (BlockUnit b) ≡ Some (CopyUnit d) = sym is ∙ shown in cc)
     go (Some (CopyUnit e)) is = elim (cases_eq e.checksum d.checksum) [
-      | inl one ↦
-          let same : e ≡ d = chance.distinct (CopyPlace n) (CopyPlace m) (CopyUnit e) (CopyUnit d)
+      | inl one ↦ let same : e ≡ d = chance.distinct (CopyPlace n) (CopyPlace m) (CopyUnit e) (CopyUnit d)
           (pools_of log.start log.events (CopyPlace n) (CopyUnit e) (chance.pooled (CopyPlace n) (CopyUnit e) is))
           (pools_of log.start log.events (CopyPlace m) (CopyUnit d) (chance.pooled (CopyPlace m) (CopyUnit d) there)) one in
           inl (is ∙ ap (λ (x : Content). Some (CopyUnit x)) same)
-      | inr differ ↦ inr (λ shown. let both : Some (CopyUnit e) ≡ Some (CopyUnit d) = sym is ∙ shown in let same : e ≡ d = cc in differ (ap (λ (x : Content). x.checksum) same))
+      | inr differ ↦ inr (λ shown. let both : Some (CopyUnit
+          e) ≡ Some (CopyUnit d) = sym is ∙ shown in let same : e ≡ d = cc in differ (ap (λ (x : Content). x.checksum) same))
     ]
 
 -- ---- nothing is loose between the steps

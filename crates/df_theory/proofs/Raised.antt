@@ -1,4 +1,5 @@
--- The images that an open or an upgrade leaves, their copies aside: each holds the view that was found at the start, and with the new superblock the view that has it.
+-- The images that an open or an upgrade leaves, their copies aside: each holds the view that was found at the start, and with the new
+-- superblock the view that has it.
 use Rattle.std.proofs.{Common.{◌≡◌, ◌⊎◌, inl, inr, ℕ, ◌+◌, ◌<◌, ◌≤◌, ◌%◌, List, Some, refl, sym, ◌∙◌, ap, arith}, lemmas.Bool.{cases_eq}}
 use Rattle.df_theory.{specs.{Units.{AnyUnit, BlockPlace, Content, CopyPlace, CopyUnit, Header, HeaderPlace, HeaderUnit, Message, Place, PreparePlace, PrepareUnit, ReplyPlace, Units}, Shape.{Shape}, Copies.{Agree, IsChosen, rank_of}, View.{View, boot_of}, Shows.{Agrees, Needs}, Holds.{Holds}, Next.{booted}, MendLaws.{IsFromSlot}, Upgrades.{IsRaised, MayRaise, as_version, of_version}, Found.{IsFound}}, proofs.{Tails.{chain_ops}, Choices.{boot_higher, same_copy}, Grew.{Grew, agrees_grew}, Agreeing.{prepare_agrees, reply_agrees}, Images.{IsOpen, bears_open, short_clear, short_same}, BootSounds.{raise_sound}, Masked.{masked, masked_chosen, masked_holds, unmasked_found, unmasked_holds}}}
 
@@ -10,7 +11,8 @@ IsBody (PreparePlace s) = Unit {0}
 IsBody (ReplyPlace k) = Unit {0}
 IsBody (BlockPlace a) = Unit {0}
 
--- an image on the way: prepares, replies and blocks are those of its start, and each header that is shown is the one of the start or that of the table
+-- an image on the way: prepares, replies and blocks are those of its start, and each header that is shown is the one of the start or that
+-- of the table
 pub record IsAfter (image : Units) (table : ℕ → Header) (j : Units) : Type 0 where
   pub body : (place : Place) → IsBody place → j place ≡ image place
   pub headers : (s : ℕ) (x : AnyUnit) → j (HeaderPlace s) ≡ Some x → (image (HeaderPlace s) ≡ Some x) ⊎ (x ≡ HeaderUnit (table s))
@@ -23,7 +25,8 @@ version_agrees n sh v (PreparePlace s) x a = (a.0, a.1, record { some = a.2.some
 version_agrees n sh v (ReplyPlace k) x a = a
 version_agrees n sh v (BlockPlace k) x a = a
 
-module _ (sh : Shape) (ver : ℕ) (image : Units) (v : View) (table : ℕ → Header) (headers : List Units) (copies : List (ℕ × Units)) (d : Content) (may : MayRaise sh ver image v table headers copies d) where
+module _ (sh : Shape) (ver : ℕ) (image : Units) (v : View) (table : ℕ → Header)
+    (headers : List Units) (copies : List (ℕ × Units)) (d : Content) (may : MayRaise sh ver image v table headers copies d) where
   pub start : Holds sh (masked v.checkpoint.content image) v
   start = masked_holds sh image v may.places may.found
 
@@ -37,13 +40,14 @@ module _ (sh : Shape) (ver : ℕ) (image : Units) (v : View) (table : ℕ → He
   -- a header of the table
   slot_agrees : (s : ℕ) (h : Header) → IsFromSlot sh image v s h → Agrees sh v (HeaderPlace s) (HeaderUnit h)
   slot_agrees s h (inl shown) = start.bears.agrees (HeaderPlace s) (HeaderUnit h) shown
-  slot_agrees s h (inr (inl of)) =
-      let a = start.bears.agrees (PreparePlace (of.0.header.op % sh.layout.slots)) (PrepareUnit of.0) (start.bears.needs (PreparePlace (of.0.header.op % sh.layout.slots)) (PrepareUnit of.0) (of.0, of.1, refl, refl)) in
+  slot_agrees s h (inr (inl of)) = let a = start.bears.agrees (PreparePlace (of.0.header.op % sh.layout.slots)) (PrepareUnit of.0)
+      (start.bears.needs (PreparePlace (of.0.header.op % sh.layout.slots)) (PrepareUnit of.0) (of.0, of.1, refl, refl)) in
       let same : a.0.header ≡ h = (let e = a.1 in let whole : a.0 ≡ of.0 = cc in ap (λ (w : Message). w.header) whole ∙ of.2) in (
         h,
         refl,
         record {
-          op = λ own. let ops = chain_ops sh.layout.clients (v.checkpoint.content.op + 1) v.checkpoint.content.op_checksum 0 v.checkpoint.parts.sessions v.tail of.0 start.bears.sound.chain of.1 in omega (arith, ops.1, ap (λ (x : Header). x.op) of.2);
+          op = λ own. let ops = chain_ops sh.layout.clients (v.checkpoint.content.op + 1) v.checkpoint.content.op_checksum 0
+              v.checkpoint.parts.sessions v.tail of.0 start.bears.sound.chain of.1 in omega (arith, ops.1, ap (λ (x : Header). x.op) of.2);
           ring = rw same at a.2.ring;
           checkpoint = rw same at a.2.checkpoint;
           boot = rw same at a.2.boot;
@@ -58,10 +62,12 @@ module _ (sh : Shape) (ver : ℕ) (image : Units) (v : View) (table : ℕ → He
   held j after = record {
     bears = bears_open sh v (masked v.checkpoint.content image) (masked v.checkpoint.content j) start.bears each;
     chosen = masked_chosen v.checkpoint.content j;
-    short = short_same sh (masked v.checkpoint.content image) (masked v.checkpoint.content j) v (λ s. after.body (PreparePlace s) tt) start.short;
+    short = short_same sh (masked v.checkpoint.content image) (masked v.checkpoint.content j) v (λ s.
+        after.body (PreparePlace s) tt) start.short;
   }
     where
-      each : (place : Place) → (masked v.checkpoint.content j place ≡ masked v.checkpoint.content image place) ⊎ IsOpen sh v (masked v.checkpoint.content j) place
+      each : (place : Place) → (masked v.checkpoint.content j place ≡ masked v.checkpoint.content image place)
+          ⊎ IsOpen sh v (masked v.checkpoint.content j) place
       each (CopyPlace n) = inl refl
       each (HeaderPlace s) = inr (record {
         needless = λ x need. need;
@@ -88,7 +94,8 @@ module _ (sh : Shape) (ver : ℕ) (image : Units) (v : View) (table : ℕ → He
 
   -- what agreed agrees with the view that has the new superblock
   pub later_agrees : (place : Place) (x : AnyUnit) → Agrees sh v place x → Agrees (of_version ver sh) (booted v d) place x
-  later_agrees place x a = version_agrees ver sh (booted v d) place x (agrees_grew sh v (booted v d) grew place x (inr (inl (omega (arith, boots)))) a)
+  later_agrees place x a =
+      version_agrees ver sh (booted v d) place x (agrees_grew sh v (booted v d) grew place x (inr (inl (omega (arith, boots)))) a)
 
   -- the view with the new superblock
   pub raised : (j : Units) → IsAfter image table j → Holds (of_version ver sh) (masked d j) (booted v d)
@@ -99,7 +106,8 @@ module _ (sh : Shape) (ver : ℕ) (image : Units) (v : View) (table : ℕ → He
   }
     where
       agrees : (place : Place) (x : AnyUnit) → masked d j place ≡ Some x → Agrees (of_version ver sh) (booted v d) place x
-      agrees (CopyPlace n) x is = (d, (let both : Some (CopyUnit d) ≡ Some x = is in let one : CopyUnit d ≡ x = cc in sym one), λ differs. inl refl)
+      agrees (CopyPlace n) x is =
+          (d, (let both : Some (CopyUnit d) ≡ Some x = is in let one : CopyUnit d ≡ x = cc in sym one), λ differs. inl refl)
       agrees (HeaderPlace s) x is = later_agrees (HeaderPlace s) x ((held j after).bears.agrees (HeaderPlace s) x is)
       agrees (PreparePlace s) x is = later_agrees (PreparePlace s) x ((held j after).bears.agrees (PreparePlace s) x is)
       agrees (ReplyPlace k) x is = later_agrees (ReplyPlace k) x ((held j after).bears.agrees (ReplyPlace k) x is)
@@ -119,7 +127,8 @@ module _ (sh : Shape) (ver : ℕ) (image : Units) (v : View) (table : ℕ → He
   pub found_new : (j : Units) → IsAfter image table j → IsChosen j d → IsFound (of_version ver sh) j (booted v d)
   found_new j after chosen = unmasked_found (of_version ver sh) j (booted v d) (raised j after) chosen
 
-  pub raised_new : (j : Units) → IsAfter image table j → IsChosen j d → ((n : ℕ) (x : AnyUnit) → j (CopyPlace n) ≡ Some x → Agrees (of_version ver sh) (booted v d) (CopyPlace n) x) → IsRaised (of_version ver sh) j (booted v d)
+  pub raised_new : (j : Units) → IsAfter image table j → IsChosen j d → ((n : ℕ) (x : AnyUnit)
+      → j (CopyPlace n) ≡ Some x → Agrees (of_version ver sh) (booted v d) (CopyPlace n) x) → IsRaised (of_version ver sh) j (booted v d)
   raised_new j after chosen clean = record {
     holds = unmasked_holds (of_version ver sh) j (booted v d) (raised j after) chosen clean;
     prepares = λ s p is. omega (arith, (prepare_agrees sh (masked v.checkpoint.content j) v (held j after).bears.sound (held j after).bears.agrees s p is).boot, boots);
@@ -178,10 +187,12 @@ module _ (i j : Units) (c : Content) (chosen : IsChosen i c) (m n : ℕ) (apart 
     ];
   }
     where
-      as_choice : (e : Content) (k : ℕ) → j (CopyPlace k) ≡ Some (CopyUnit e) → e ≡ c → (q : ℕ) × (q ≤ k) × (j (CopyPlace q) ≡ Some (CopyUnit c))
+      as_choice : (e : Content) (k : ℕ)
+          → j (CopyPlace k) ≡ Some (CopyUnit e) → e ≡ c → (q : ℕ) × (q ≤ k) × (j (CopyPlace q) ≡ Some (CopyUnit c))
       as_choice e k shown same = (k, omega arith, shown ∙ ap (λ (x : Content). Some (CopyUnit x)) same)
 
-      lower : (e : Content) → Agree i e → (k : ℕ) → k < 4 → j (CopyPlace k) ≡ Some (CopyUnit e) → (q : ℕ) × (q ≤ k) × (i (CopyPlace q) ≡ Some (CopyUnit c)) → (q : ℕ) × (q ≤ k) × (j (CopyPlace q) ≡ Some (CopyUnit c))
+      lower : (e : Content) → Agree i e → (k : ℕ) → k < 4 → j (CopyPlace k) ≡ Some (CopyUnit e)
+          → (q : ℕ) × (q ≤ k) × (i (CopyPlace q) ≡ Some (CopyUnit c)) → (q : ℕ) × (q ≤ k) × (j (CopyPlace q) ≡ Some (CopyUnit c))
       lower e before k below shown (q, to, at_q) = elim (cases_eq q m) [
         | inl is ↦ (m, omega arith, j_m)
         | inr no_m ↦ elim (cases_eq q n) [

@@ -45,7 +45,8 @@ may5 = record {
     spare a b (inr none) = absurd none
 
 held4 : (a : ℕ) (b : Block) → InChain a b checkpoint2.chain → now log4 (BlockPlace a) ≡ Some (BlockUnit b)
-held4 a b (inl is) = subst (λ (k : ℕ). now log4 (BlockPlace k) ≡ Some (BlockUnit b)) (sym is.0) (ap (λ (c : Block). Some (BlockUnit c)) (sym is.1))
+held4 a b (inl is) =
+    subst (λ (k : ℕ). now log4 (BlockPlace k) ≡ Some (BlockUnit b)) (sym is.0) (ap (λ (c : Block). Some (BlockUnit c)) (sym is.1))
 held4 a b (inr none) = absurd none
 
 pub leads5 : LeadsTidily shape log4 view2 command5 × (IsStanding log4 view2 → Stands (now log4) view5 → KeepsStanding shape log4 view2 command5)
@@ -62,7 +63,8 @@ log6 = after_steps (append_of view5 prepare2).steps log5
 may6 : MayAppend shape view5 (prepare2 ∷ [])
 may6 = may_append shape view5 (prepare2 ∷ []) (omega arith) (refl, refl, tt) (record { mark = refl; checkpoint = refl; boot = refl; group = refl; group_last = refl }, tt) (omega arith, omega arith, omega arith) (inl (refl, refl, omega arith), tt)
 
-leads6 : LeadsTidily shape log5 view5 (append_of view5 prepare2) × (IsStanding log5 view5 → KeepsStanding shape log5 view5 (append_of view5 prepare2))
+leads6 : LeadsTidily shape log5 view5 (append_of view5 prepare2)
+    × (IsStanding log5 view5 → KeepsStanding shape log5 view5 (append_of view5 prepare2))
 leads6 = append_leads 1 (λ op text. Some parts) log5 view5 prepare2 leads5.0.tidy may6
 
 -- ---- all of it
@@ -82,20 +84,14 @@ only_two a c is = go (a == 2) refl is
     go false test none = absurd (let same : None ≡ Some c = none in cc)
 
 stands4 : Stands (now log4) view5
-stands4 a c is =
-    let at = only_two a c is in
-    (block, rw at.0 refl, sym at.1, omega arith)
+stands4 a c is = let at = only_two a c is in (block, rw at.0 refl, sym at.1, omega arith)
 
 -- the referenced blocks stand all along
 keep : KeepStanding shape made first commands
-keep =
-    let one = leads1.1 tidy_made.1 in
-    let two = leads2.1 one.standing in
+keep = let one = leads1.1 tidy_made.1 in let two = leads2.1 one.standing in
     let three = leads3.1 two.standing (λ c none. absurd (let both : None ≡ Some c = none in cc)) in
     let four = leads4.1 three.standing (λ c none. absurd (let both : None ≡ Some c = none in cc)) in
-    let five = leads5.1 four.standing stands4 in
-    let six = leads6.1 five.standing in
-    (one, (two, (three, (four, (five, (six, tt))))))
+    let five = leads5.1 four.standing stands4 in let six = leads6.1 five.standing in (one, (two, (three, (four, (five, (six, tt))))))
 
 pub sample_law : SampleLaw
 sample_law = record { shape = shape; first = first; format = made_steps; commands = commands; safe = safe_made; tidy = tidy_made.0; standing = tidy_made.1; lead = lead; keep = keep; some = (omega arith, omega arith, refl, (2, 9, refl)) }

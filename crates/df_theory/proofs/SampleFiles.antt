@@ -19,7 +19,8 @@ first_of c = record { checkpoint = record { content = c; chain = []; parts = no_
 pub is_first_of : (sh : Shape) (c : Content) → IsFirstContent sh c → IsFirst sh (first_of c)
 is_first_of sh c is = record { content = is; chain = refl; parts = refl; tail = refl; replies = refl; stored = λ k. refl }
 
-pub is_first_bare : (version answered sum : ℕ) (parse : ℕ → List ℕ → Option Parts) → answered ≤ 1 → IsOfVersion (bare version answered sum 0) → IsFirst (shape_of version parse) (first_of (bare version answered sum 0))
+pub is_first_bare : (version answered sum : ℕ) (parse : ℕ → List ℕ → Option Parts)
+    → answered ≤ 1 → IsOfVersion (bare version answered sum 0) → IsFirst (shape_of version parse) (first_of (bare version answered sum 0))
 is_first_bare version answered sum parse few of = is_first_of (shape_of version parse) (bare version answered sum 0) (record {
   tests = record { version = refl; layout = refl; cluster = refl; sequence = (omega arith, omega arith); boot = omega arith; op_checksum = λ zero_is. refl; head = (omega arith, omega arith, omega arith); replies = (omega arith, omega arith); pin = (omega arith, omega arith); pin_checksum = λ level. refl; answered = omega (arith, few); spare = λ k low. refl; of = of; rest = λ i. refl };
   sequence = refl;
@@ -40,7 +41,8 @@ all_reserved (ReplyPlace k) = None
 all_reserved (BlockPlace a) = None
 
 pub puts_reserved : PutsReserved all_reserved
-puts_reserved (HeaderPlace s) y is = (s, reserved, refl, let both : Some (HeaderUnit reserved) ≡ Some y = is in cc, record { op = refl; checkpoint = refl; boot = refl })
+puts_reserved (HeaderPlace s) y is =
+    (s, reserved, refl, let both : Some (HeaderUnit reserved) ≡ Some y = is in cc, record { op = refl; checkpoint = refl; boot = refl })
 puts_reserved (CopyPlace n) y is = absurd (let both : None ≡ Some y = is in cc)
 puts_reserved (PreparePlace s) y is = absurd (let both : None ≡ Some y = is in cc)
 puts_reserved (ReplyPlace k) y is = absurd (let both : None ≡ Some y = is in cc)
@@ -67,12 +69,13 @@ pub making_of : (sh : Shape) (c : Content) → IsFirst sh (first_of c) → IsMak
 making_of sh c first = (blank_law sh c first.content).0
 
 pub tidy_of : (sh : Shape) (c : Content) → IsFirst sh (first_of c) → IsTidy sh (made_of c) (first_of c) × IsStanding (made_of c) (first_of c)
-tidy_of sh c first = tidy_format_law sh blank_log (first_of c) (all_reserved ∷ []) (copies_of c) (making_of sh c first) first (puts_reserved, tt) (λ s below. inl (HeaderUnit reserved, refl))
+tidy_of sh c first = tidy_format_law sh blank_log (first_of c)
+    (all_reserved ∷ []) (copies_of c) (making_of sh c first) first (puts_reserved, tt) (λ s below. inl (HeaderUnit reserved, refl))
 
 -- the header sector of an append: the new header alone
-pub sector : (sh : Shape) (image : Units) (p : Message) → IsHeaderSector sh image p (put_one (HeaderPlace (p.header.op % sh.layout.slots)) (HeaderUnit p.header))
+pub sector : (sh : Shape) (image : Units) (p : Message)
+    → IsHeaderSector sh image p (put_one (HeaderPlace (p.header.op % sh.layout.slots)) (HeaderUnit p.header))
 sector sh image p = record {
-  each = λ place y is.
-      let at = (put_one_law (HeaderPlace (p.header.op % sh.layout.slots)) (HeaderUnit p.header)).only place y is in
+  each = λ place y is. let at = (put_one_law (HeaderPlace (p.header.op % sh.layout.slots)) (HeaderUnit p.header)).only place y is in
       (p.header.op % sh.layout.slots, p.header, at.0, at.1, inr (refl, refl));
 }

@@ -15,8 +15,10 @@ stamped_in v last (q ∷ ps) are p (inr later) = stamped_in v last ps are.1 p la
 
 -- a group that is in its turn and stamped, with room for it, and whose clients may ask
 pub may_append :
-    (sh : Shape) (v : View) (ps : List Message) → 0 < length ps → AreInTurn (head v + 1) (last_checksum v.checkpoint.content.op_checksum v.tail) ps → AreStamped v (head v + length ps) ps
-    → (length v.tail + length ps ≤ slots sh) × (head v + length ps ≤ v.replies + 8) × (head v + length ps ≤ 2 ^ 62) → MayAskInTurn (clients sh) (sessions v) ps → MayAppend sh v ps
+    (sh : Shape) (v : View) (ps : List Message) → 0 < length ps
+    → AreInTurn (head v + 1) (last_checksum v.checkpoint.content.op_checksum v.tail) ps → AreStamped v (head v + length ps) ps
+    → (length v.tail + length ps ≤ slots sh) × (head v + length ps ≤ v.replies + 8) × (head v + length ps ≤ 2 ^ 62)
+    → MayAskInTurn (clients sh) (sessions v) ps → MayAppend sh v ps
 may_append sh v ps some turn are room asks = record {
   is = record { some = some; turn = turn; stamped = stamped_in v (head v + length ps) ps are };
   room = room.0;
@@ -32,11 +34,13 @@ grouped sum parent client op boot = record { header = record { checksum = sum; p
 abbrev pub pair : ℕ → ℕ → ℕ → List Message
 pair a b boot = grouped a 0 7 1 boot ∷ grouped b a 8 2 boot ∷ []
 
-pub may_append_pair : (parse : ℕ → List ℕ → Option Parts) (sum a b boot : ℕ) → MayAppend (shape_of 2 parse) (first_of (bare 2 1 sum boot)) (pair a b boot)
-may_append_pair parse sum a b boot = may_append (shape_of 2 parse) (first_of (bare 2 1 sum boot)) (pair a b boot) (omega arith) (refl, refl, (refl, refl, tt)) (
-  record { mark = refl; checkpoint = refl; boot = refl; group = refl; group_last = refl },
-  (record { mark = refl; checkpoint = refl; boot = refl; group = refl; group_last = refl }, tt),
-) (omega arith, omega arith, omega arith) ((refl, omega arith), (inr (λ same. omega arith, 3, refl, (refl, omega arith)), tt))
+pub may_append_pair : (parse : ℕ → List ℕ → Option Parts) (sum a b boot : ℕ)
+    → MayAppend (shape_of 2 parse) (first_of (bare 2 1 sum boot)) (pair a b boot)
+may_append_pair parse sum a b boot =
+    may_append (shape_of 2 parse) (first_of (bare 2 1 sum boot)) (pair a b boot) (omega arith) (refl, refl, (refl, refl, tt)) (
+      record { mark = refl; checkpoint = refl; boot = refl; group = refl; group_last = refl },
+      (record { mark = refl; checkpoint = refl; boot = refl; group = refl; group_last = refl }, tt),
+    ) (omega arith, omega arith, omega arith) ((refl, omega arith), (inr (λ same. omega arith, 3, refl, (refl, omega arith)), tt))
 
 abbrev pub prepare_put : Message → Units
 prepare_put p = put_one (PreparePlace (p.header.op % 16)) (PrepareUnit p)
@@ -48,10 +52,12 @@ abbrev pub append_of : View → Message → Command
 append_of v p = append_command v p (prepare_put p) (header_put p)
 
 pub append_leads :
-    (version : ℕ) (parse : ℕ → List ℕ → Option Parts) (log : UnitLog) (v : View) (p : Message) → IsTidy (shape_of version parse) log v → MayAppend (shape_of version parse) v (p ∷ [])
-    → LeadsTidily (shape_of version parse) log v (append_of v p) × (IsStanding log v → KeepsStanding (shape_of version parse) log v (append_of v p))
-append_leads version parse log v p tidy may =
-    tidy_append_law (shape_of version parse) log v p (prepare_put p) (header_put p) tidy may (put_one_law (PreparePlace (p.header.op % 16)) (PrepareUnit p)) (sector (shape_of version parse) (now log) p)
+    (version : ℕ) (parse : ℕ → List ℕ → Option Parts) (log : UnitLog) (v : View) (p : Message)
+    → IsTidy (shape_of version parse) log v → MayAppend (shape_of version parse) v (p ∷ [])
+    → LeadsTidily (shape_of version parse) log v (append_of v p)
+    × (IsStanding log v → KeepsStanding (shape_of version parse) log v (append_of v p))
+append_leads version parse log v p tidy may = tidy_append_law (shape_of version parse) log v p (prepare_put p)
+    (header_put p) tidy may (put_one_law (PreparePlace (p.header.op % 16)) (PrepareUnit p)) (sector (shape_of version parse) (now log) p)
     (put_one_law (HeaderPlace (p.header.op % 16)) (HeaderUnit p.header)).at
 
 -- ---- a boot update
@@ -60,7 +66,8 @@ append_leads version parse log v p tidy may =
 abbrev pub raised : View → ℕ → ℕ → List ℕ → Content
 raised v sum pin_sum reply_sums = record (v.checkpoint.content) { checksum = sum; boot = boot_of v + 1; head = head v; replies = v.replies; pin = head v; pin_checksum = pin_sum; answered = v.replies + 1; reply_checksums = reply_sums }
 
-pub may_raise : (v : View) (sum pin_sum : ℕ) (reply_sums : List ℕ) → v.checkpoint.content.version ≡ 2 → boot_of v < 2 ^ 62 → Records v (raised v sum pin_sum reply_sums) → MayBoot v (raised v sum pin_sum reply_sums)
+pub may_raise : (v : View) (sum pin_sum : ℕ) (reply_sums : List ℕ) → v.checkpoint.content.version ≡ 2
+    → boot_of v < 2 ^ 62 → Records v (raised v sum pin_sum reply_sums) → MayBoot v (raised v sum pin_sum reply_sums)
 may_raise v sum pin_sum reply_sums two low records = record {
   is = record {
     same = record { file = (refl, refl, refl, refl); sequence = refl; op = (refl, refl); trailer = (refl, refl, refl) };
@@ -77,7 +84,8 @@ may_raise v sum pin_sum reply_sums two low records = record {
 
 -- the four copies of a content, one by one
 pub copies_are :
-    (c : Content) (image : Units) → image (CopyPlace 0) ≡ Some (CopyUnit c) → image (CopyPlace 1) ≡ Some (CopyUnit c) → image (CopyPlace 2) ≡ Some (CopyUnit c) → image (CopyPlace 3) ≡ Some (CopyUnit c)
+    (c : Content) (image : Units) → image (CopyPlace 0) ≡ Some (CopyUnit c)
+    → image (CopyPlace 1) ≡ Some (CopyUnit c) → image (CopyPlace 2) ≡ Some (CopyUnit c) → image (CopyPlace 3) ≡ Some (CopyUnit c)
     → (n : ℕ) → n < 4 → image (CopyPlace n) ≡ Some (CopyUnit c)
 copies_are c image at0 at1 at2 at3 n below = elim (four n below) [
   | inl at ↦ rw (sym at) at at0
@@ -88,6 +96,5 @@ copies_are c image at0 at1 at2 at3 n below = elim (four n below) [
 
 -- nothing is loose after an update
 pub quiet_updated : (c : Content) (log : UnitLog) → IsQuiet (after_steps (update_steps (copies_of c)) log)
-quiet_updated c log =
-    let after : ℕ → UnitLog → UnitLog = λ n l. add Synced (wrote (put_one (CopyPlace n) (CopyUnit c)) l) in
+quiet_updated c log = let after : ℕ → UnitLog → UnitLog = λ n l. add Synced (wrote (put_one (CopyPlace n) (CopyUnit c)) l) in
     quiet_synced (wrote (put_one (CopyPlace 3) (CopyUnit c)) (after 2 (after 1 (after 0 log))))

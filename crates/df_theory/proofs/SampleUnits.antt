@@ -8,19 +8,21 @@ module _ (P : AnyUnit → Type 0) where
   pub one_shows : (place : Place) (x : AnyUnit) → P x → Shows P (put_one place x)
   one_shows place x own other y is = subst P (sym ((put_one_law place x).only other y is).1) own
 
-  pub put_all : (place : Place) (x : AnyUnit) (log : UnitLog) → P x → All P log.start log.events → All P log.start (wrote (put_one place x) log).events
+  pub put_all : (place : Place) (x : AnyUnit) (log : UnitLog)
+      → P x → All P log.start log.events → All P log.start (wrote (put_one place x) log).events
   put_all place x log own all = all_wrote P (put_one place x) log (one_shows place x own) all
 
   -- four copies of a content
-  pub copies_all : (c : Content) → P (CopyUnit c) → (log : UnitLog) → All P log.start log.events → All P log.start (after_steps (update_steps (copies_of c)) log).events
-  copies_all c own log all =
-      let l1 : UnitLog = add Synced (wrote (put_one (CopyPlace 0) (CopyUnit c)) log) in
+  pub copies_all : (c : Content) → P (CopyUnit c)
+      → (log : UnitLog) → All P log.start log.events → All P log.start (after_steps (update_steps (copies_of c)) log).events
+  copies_all c own log all = let l1 : UnitLog = add Synced (wrote (put_one (CopyPlace 0) (CopyUnit c)) log) in
       let l2 : UnitLog = add Synced (wrote (put_one (CopyPlace 1) (CopyUnit c)) l1) in
-      let l3 : UnitLog = add Synced (wrote (put_one (CopyPlace 2) (CopyUnit c)) l2) in
-      put_all (CopyPlace 3) (CopyUnit c) l3 own (put_all (CopyPlace 2) (CopyUnit c) l2 own (put_all (CopyPlace 1) (CopyUnit c) l1 own (put_all (CopyPlace 0) (CopyUnit c) log own all)))
+      let l3 : UnitLog = add Synced (wrote (put_one (CopyPlace 2) (CopyUnit c)) l2) in put_all (CopyPlace 3) (CopyUnit c) l3 own (put_all
+      (CopyPlace 2) (CopyUnit c) l2 own (put_all (CopyPlace 1) (CopyUnit c) l1 own (put_all (CopyPlace 0) (CopyUnit c) log own all)))
 
   reserved_shows : P (HeaderUnit reserved) → Shows P all_reserved
-  reserved_shows own (HeaderPlace s) y is = subst P (let both : Some (HeaderUnit reserved) ≡ Some y = is in let one : HeaderUnit reserved ≡ y = cc in one) own
+  reserved_shows own (HeaderPlace s) y is =
+      subst P (let both : Some (HeaderUnit reserved) ≡ Some y = is in let one : HeaderUnit reserved ≡ y = cc in one) own
   reserved_shows own (CopyPlace n) y is = absurd (let both : None ≡ Some y = is in cc)
   reserved_shows own (PreparePlace s) y is = absurd (let both : None ≡ Some y = is in cc)
   reserved_shows own (ReplyPlace k) y is = absurd (let both : None ≡ Some y = is in cc)
@@ -28,8 +30,8 @@ module _ (P : AnyUnit → Type 0) where
 
   -- a file as it is made
   pub made_all : (c : Content) → P (CopyUnit c) → P (HeaderUnit reserved) → All P (made_of c).start (made_of c).events
-  made_all c own own_reserved =
-      copies_all c own (add Synced (wrote all_reserved blank_log)) (all_wrote P all_reserved blank_log (reserved_shows own_reserved) (λ place x is. absurd (let both : None ≡ Some x = is in cc)))
+  made_all c own own_reserved = copies_all c own (add Synced (wrote all_reserved blank_log))
+      (all_wrote P all_reserved blank_log (reserved_shows own_reserved) (λ place x is. absurd (let both : None ≡ Some x = is in cc)))
 
 -- ---- one checksum, one unit
 
@@ -57,24 +59,29 @@ distinct_of P told x y one two = tt
 
 -- no chance in an image of what was pooled in a log of such units
 pub no_chance :
-    (P : AnyUnit → Type 0) → ((x y : AnyUnit) → P x → P y → Distinct x y) → (log : UnitLog) → All P log.start log.events → (image : Units) → ((place : Place) (x : AnyUnit) → image place ≡ Some x → InPool log place x)
+    (P : AnyUnit → Type 0) → ((x y : AnyUnit) → P x → P y → Distinct x y) → (log : UnitLog)
+    → All P log.start log.events → (image : Units) → ((place : Place) (x : AnyUnit) → image place ≡ Some x → InPool log place x)
     → NoChance log image
 no_chance P distinct log all image pooled = record {
   pooled = pooled;
-  distinct = λ place other x y one two. distinct x y (pools_all P log.start log.events all place x one) (pools_all P log.start log.events all other y two);
+  distinct = λ place other x y one two.
+      distinct x y (pools_all P log.start log.events all place x one) (pools_all P log.start log.events all other y two);
 }
 
 -- ---- what a write leaves
 
 -- what is shown after a write was pooled, or is pooled by it
 pub wrote_pooled :
-    (put : Units) (log : UnitLog) → ((place : Place) (x : AnyUnit) → now log place ≡ Some x → InPool log place x) → (place : Place) (x : AnyUnit) → now (wrote put log) place ≡ Some x → InPool (wrote put log) place x
+    (put : Units) (log : UnitLog) → ((place : Place) (x : AnyUnit) → now log place ≡ Some x → InPool log place x)
+    → (place : Place) (x : AnyUnit) → now (wrote put log) place ≡ Some x → InPool (wrote put log) place x
 wrote_pooled put log old place x is = go (put place) refl
   where
     go : (o : Option AnyUnit) → put place ≡ o → InPool (wrote put log) place x
-    go None none = elim (old place x (ap (λ (o : Option AnyUnit). or_else o (now log place)) (sym none) ∙ is)) [ inl older ↦ inl older | inr newer ↦ inr (inr newer) ]
+    go None none = elim (old place
+        x (ap (λ (o : Option AnyUnit). or_else o (now log place)) (sym none) ∙ is)) [ inl older ↦ inl older | inr newer ↦ inr (inr newer) ]
     go (Some y) some = inr (inl (some ∙ ap (λ (o : Option AnyUnit). or_else o (now log place)) (sym some) ∙ is))
 
 -- a stop may tear a place that is loose
 pub left_without : (place : Place) (log : UnitLog) → loose log place ≡ true → IsLeftBy log (without place (now log))
-left_without place log wet other firm = without_else place other (now log) (λ same. let both : true ≡ false = sym wet ∙ sym (ap (λ (p : Place). loose log p) same) ∙ firm in cc)
+left_without place log wet other firm =
+    without_else place other (now log) (λ same. let both : true ≡ false = sym wet ∙ sym (ap (λ (p : Place). loose log p) same) ∙ firm in cc)

@@ -19,7 +19,8 @@ abbrev pub first : View
 first = first_of content1
 
 pub is_first : IsFirst shape first
-is_first = is_first_bare 1 0 21 (λ op text. Some parts) (omega arith) (record { one = λ is. (refl, refl, refl, refl); two = λ is. absurd (omega arith) })
+is_first = is_first_bare 1 0 21 (λ op text.
+    Some parts) (omega arith) (record { one = λ is. (refl, refl, refl, refl); two = λ is. absurd (omega arith) })
 
 abbrev pub made_steps : List Step
 made_steps = format_steps (all_reserved ∷ []) (copies_of content1)
@@ -28,7 +29,8 @@ abbrev pub made : UnitLog
 made = made_of content1
 
 pub safe_made : AtEach (IsSafe shape) blank_log made_steps
-safe_made = (format_law shape blank_log first (all_reserved ∷ []) (copies_of content1) (making_of shape content1 is_first) is_first (puts_reserved, tt)).0
+safe_made = (format_law
+    shape blank_log first (all_reserved ∷ []) (copies_of content1) (making_of shape content1 is_first) is_first (puts_reserved, tt)).0
 
 pub tidy_made : IsTidy shape made first × IsStanding made first
 tidy_made = tidy_of shape content1 is_first
@@ -90,17 +92,20 @@ put_block a b = put_one (BlockPlace a) (BlockUnit b)
 abbrev pub block_at : ℕ → Block → Command
 block_at a b = block_command view2 (put_block a b)
 
-block_leads : (a : ℕ) (b : Block) (log : UnitLog) → IsTidy shape log view2 → LeadsTidily shape log view2 (block_at a b) × (IsStanding log view2 → ((c : ℕ) → view2.checkpoint.parts.references a ≡ Some c → ⊥) → KeepsStanding shape log view2 (block_at a b))
+block_leads : (a : ℕ) (b : Block) (log : UnitLog) → IsTidy shape log view2 → LeadsTidily shape log view2 (block_at a b)
+    × (IsStanding log view2 → ((c : ℕ) → view2.checkpoint.parts.references a ≡ Some c → ⊥) → KeepsStanding shape log view2 (block_at a b))
 block_leads a b log tidy = tidy_block_law shape log view2 (put_block a b) a b tidy (λ c none. none) (put_one_law (BlockPlace a) (BlockUnit b))
 
 abbrev pub log3 : UnitLog
 log3 = after_steps (block_at 2 block).steps log2
 
-pub leads3 : LeadsTidily shape log2 view2 (block_at 2 block) × (IsStanding log2 view2 → ((c : ℕ) → view2.checkpoint.parts.references 2 ≡ Some c → ⊥) → KeepsStanding shape log2 view2 (block_at 2 block))
+pub leads3 : LeadsTidily shape log2 view2 (block_at 2 block) × (IsStanding log2 view2
+    → ((c : ℕ) → view2.checkpoint.parts.references 2 ≡ Some c → ⊥) → KeepsStanding shape log2 view2 (block_at 2 block))
 leads3 = block_leads 2 block log2 leads2.0.tidy
 
 abbrev pub log4 : UnitLog
 log4 = after_steps (block_at 1 trailer).steps log3
 
-pub leads4 : LeadsTidily shape log3 view2 (block_at 1 trailer) × (IsStanding log3 view2 → ((c : ℕ) → view2.checkpoint.parts.references 1 ≡ Some c → ⊥) → KeepsStanding shape log3 view2 (block_at 1 trailer))
+pub leads4 : LeadsTidily shape log3 view2 (block_at 1 trailer) × (IsStanding log3 view2
+    → ((c : ℕ) → view2.checkpoint.parts.references 1 ≡ Some c → ⊥) → KeepsStanding shape log3 view2 (block_at 1 trailer))
 leads4 = block_leads 1 trailer log3 leads3.0.tidy

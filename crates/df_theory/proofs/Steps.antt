@@ -23,14 +23,16 @@ made_agrees sh v (PreparePlace s) x made = absurd made
 made_agrees sh v (ReplyPlace k) x made = absurd made
 made_agrees sh v (BlockPlace a) x made = absurd made
 
-images_made : (sh : Shape) (v : View) (images : List Units) → AreMade v.checkpoint.content images → (place : Place) (x : AnyUnit) → InImages images place x → Agrees sh v place x
+images_made : (sh : Shape) (v : View) (images : List Units)
+    → AreMade v.checkpoint.content images → (place : Place) (x : AnyUnit) → InImages images place x → Agrees sh v place x
 images_made sh v [] made place x at = absurd at
 images_made sh v (image ∷ []) made place x (inl here) = absurd (let no_unit : Some x ≡ None = sym here ∙ made place in cc)
 images_made sh v (image ∷ []) made place x (inr there) = absurd there
 images_made sh v (image ∷ before ∷ images) made place x (inl here) = made_agrees sh v place x (made.0 place x here)
 images_made sh v (image ∷ before ∷ images) made place x (inr there) = images_made sh v (before ∷ images) made.2 place x there
 
-begins_agrees : (sh : Shape) (v : View) (image : Units) (images : List Units) → Begins sh image images v → (place : Place) (x : AnyUnit) → InImages images place x → Agrees sh v place x
+begins_agrees : (sh : Shape) (v : View) (image : Units) (images : List Units)
+    → Begins sh image images v → (place : Place) (x : AnyUnit) → InImages images place x → Agrees sh v place x
 begins_agrees sh v image [] begins place x at = absurd at
 begins_agrees sh v image (before ∷ images) begins place x at = images_made sh v (before ∷ images) begins.2 place x at
 
@@ -43,7 +45,8 @@ pub goes_same : (images : List Units) (v : View) → GoesOn images v v
 goes_same images v = record { next = Same; clear = inl (refl, refl) }
 
 -- what was settled before a step stays as the step needs it
-pub stays_on : (sh : Shape) (images : List Units) (u v : View) → Grows sh images u → GoesOn images u v → (place : Place) (x : AnyUnit) → InImages images place x → Stays u v place x
+pub stays_on : (sh : Shape) (images : List Units) (u v : View)
+    → Grows sh images u → GoesOn images u v → (place : Place) (x : AnyUnit) → InImages images place x → Stays u v place x
 stays_on sh images u v grows goes place x at = elim goes.clear [
   | inl same ↦ inl (omega (arith, ap (λ (b : Checkpoint). b.content.op) same.0, ap length same.1))
   | inr (inl more) ↦ inr (inl more)
@@ -51,29 +54,29 @@ stays_on sh images u v grows goes place x at = elim goes.clear [
 ]
 
 -- every settled unit agrees with the newest view
-pub old_agrees : (sh : Shape) (images : List Units) (v : View) → Grows sh images v → (place : Place) (x : AnyUnit) → InImages images place x → Agrees sh v place x
+pub old_agrees : (sh : Shape) (images : List Units) (v : View)
+    → Grows sh images v → (place : Place) (x : AnyUnit) → InImages images place x → Agrees sh v place x
 old_agrees sh [] v grows place x at = absurd at
 old_agrees sh (image ∷ images) v grows place x (inl here) = grows.0.bears.agrees place x here
 old_agrees sh (image ∷ images) v grows place x (inr there) = elim grows.1 [
   | inl begins ↦ begins_agrees sh v image images begins place x there
-  | inr later ↦ agrees_grew sh later.1.0 v (next_grew sh later.1.0 v (grows_sound sh images later.1.0 later.1.2) later.1.1.next) place x (stays_on sh images later.1.0 v later.1.2 later.1.1 place x there) (old_agrees sh images later.1.0 later.1.2 place x there)
+  | inr later ↦ agrees_grew sh later.1.0 v (next_grew sh later.1.0 v (grows_sound sh images later.1.0 later.1.2) later.1.1.next)
+      place x (stays_on sh images later.1.0 v later.1.2 later.1.1 place x there) (old_agrees sh images later.1.0 later.1.2 place x there)
 ]
 
-pub grows_more : (sh : Shape) (images : List Units) (v : View) (j : Units) → Grows sh images v → (o : Outcome sh images v j) → Grows sh (j ∷ images) o.view
+pub grows_more : (sh : Shape) (images : List Units) (v : View) (j : Units)
+    → Grows sh images v → (o : Outcome sh images v j) → Grows sh (j ∷ images) o.view
 grows_more sh images v j grows o = (o.holds, inr (o.history, (v, o.next, grows)))
 
 -- A log is safe where each image that a stop may leave has a next view.
 pub safe_if : (sh : Shape) (log : UnitLog) (v : View) → AreFair log.start log.events → Grows sh (settled log) v → IsPooled log (now log)
     → ((j : Units) → IsLeftBy log j → IsPooled log j → Outcome sh (settled log) v j) → IsSafe sh log
-safe_if sh log v fair grows here each =
-    let o = each (now log) (λ place firm. refl) here in
-    record {
-      grown = inl (v, record { fair = fair; grows = grows });
-      synced = inl (o.view, record { fair = fair; grows = grows_more sh (settled log) v (now log) grows o });
-      stopped = λ image left chance.
-          let p = each image left chance.pooled in
-          inl (p.view, record { fair = (left, chance, fair); grows = grows_more sh (settled log) v image grows p });
-    }
+safe_if sh log v fair grows here each = let o = each (now log) (λ place firm. refl) here in record {
+  grown = inl (v, record { fair = fair; grows = grows });
+  synced = inl (o.view, record { fair = fair; grows = grows_more sh (settled log) v (now log) grows o });
+  stopped = λ image left chance. let p = each image left chance.pooled in
+      inl (p.view, record { fair = (left, chance, fair); grows = grows_more sh (settled log) v image grows p });
+}
 
 -- a log that has just been synced rests on its view
 pub synced_rests : (sh : Shape) (log : UnitLog) (v : View) → HasGrown sh (add Synced log) v → RestsOn sh (add Synced log) v
@@ -88,7 +91,8 @@ synced_rests sh log v g = record {
 }
 
 -- nothing that is loose matters: each image left has the view
-pub rests_left : (sh : Shape) (log : UnitLog) (v : View) → RestsOn sh log v → (j : Units) → IsLeftBy log j → IsPooled log j → Outcome sh (settled log) v j
+pub rests_left : (sh : Shape) (log : UnitLog) (v : View)
+    → RestsOn sh log v → (j : Units) → IsLeftBy log j → IsPooled log j → Outcome sh (settled log) v j
 rests_left sh log v rest j left pooled = record {
   view = v;
   next = goes_same (settled log) v;
@@ -127,7 +131,8 @@ rests_holds sh log v rest j left chance = (rests_left sh log v rest j left chanc
 
 -- THE STEP: a write of whole units.
 module _ (sh : Shape) (log : UnitLog) (v : View) (put : Units) (rest : RestsOn sh log v) where
-  shown_put : (place : Place) (x : AnyUnit) → or_else (put place) (now log place) ≡ Some x → (o : Option AnyUnit) → put place ≡ o → InPool (wrote put log) place x
+  shown_put : (place : Place) (x : AnyUnit)
+      → or_else (put place) (now log place) ≡ Some x → (o : Option AnyUnit) → put place ≡ o → InPool (wrote put log) place x
   shown_put place x is (Some y) at = inr (inl (at ∙ sym (ap (λ (o : Option AnyUnit). or_else o (now log place)) at) ∙ is))
   shown_put place x is None at = elim (rest.pooled place x (sym (ap (λ (o : Option AnyUnit). or_else o (now log place)) at) ∙ is)) [
     | inl old ↦ inl old
@@ -140,7 +145,8 @@ module _ (sh : Shape) (log : UnitLog) (v : View) (put : Units) (rest : RestsOn s
   kept_same : (j : Units) → IsLeftBy (wrote put log) j → (place : Place) → loose log place ≡ false → put place ≡ None → j place ≡ now log place
   kept_same j left place firm none = left place (λ i. is_some (none i) || firm i) ∙ (λ i. or_else (none i) (now log place))
 
-  tear_at : (j : Units) → IsLeftBy (wrote put log) j → IsPooled (wrote put log) j → (place : Place) → (o : Option AnyUnit) → put place ≡ o → (b : Bool) → loose log place ≡ b → Tear sh log v put j place
+  tear_at : (j : Units) → IsLeftBy (wrote put log) j → IsPooled (wrote put log) j
+      → (place : Place) → (o : Option AnyUnit) → put place ≡ o → (b : Bool) → loose log place ≡ b → Tear sh log v put j place
   tear_at j left pooled place o is true wet = Loose wet (rest.calm place wet) (λ x shown. elim (pooled place x shown) [
     | inl old ↦ inl (record { agrees = rest.old place x old; history = inl old })
     | inr (inl new) ↦ inr new
@@ -156,7 +162,8 @@ module _ (sh : Shape) (log : UnitLog) (v : View) (put : Units) (rest : RestsOn s
   pub left_torn : (j : Units) → IsLeftBy (wrote put log) j → IsPooled (wrote put log) j → Torn sh log v put j
   left_torn j left pooled place = tear_at j left pooled place (put place) refl (loose log place) refl
 
-  pub torn_outcome : (j : Units) (u : View) → GoesOn (settled log) v u → IsPooled (wrote put log) j → TornView sh log v put j u → Outcome sh (settled log) v j
+  pub torn_outcome : (j : Units) (u : View)
+      → GoesOn (settled log) v u → IsPooled (wrote put log) j → TornView sh log v put j u → Outcome sh (settled log) v j
   torn_outcome j u next pooled t = record {
     view = u;
     next = next;
@@ -169,11 +176,13 @@ module _ (sh : Shape) (log : UnitLog) (v : View) (put : Units) (rest : RestsOn s
   }
 
   -- the log after the write and a sync rests on its view
-  pub write_synced : (u : View) → GoesOn (settled log) v u → TornView sh log v put (overlay put (now log)) u → RestsOn sh (add Synced (wrote put log)) u
+  pub write_synced : (u : View)
+      → GoesOn (settled log) v u → TornView sh log v put (overlay put (now log)) u → RestsOn sh (add Synced (wrote put log)) u
   unfolding torn_outcome
   write_synced u next t = synced_rests sh (wrote put log) u (record { fair = rest.fair; grows = grows_more sh (settled log) v (now (wrote put log)) rest.grows (torn_outcome (overlay put (now log)) u next wrote_pooled t) })
 
-  pub step : (u : View) → GoesOn (settled log) v u → ((j : Units) → Torn sh log v put j → TornView sh log v put j v ⊎ TornView sh log v put j u) → TornView sh log v put (overlay put (now log)) u → Stepped sh log put v u
+  pub step : (u : View) → GoesOn (settled log) v u → ((j : Units) → Torn sh log v put j
+      → TornView sh log v put j v ⊎ TornView sh log v put j u) → TornView sh log v put (overlay put (now log)) u → Stepped sh log put v u
   step u next each done = record {
     good = record {
       safe = safe_if sh (wrote put log) v rest.fair rest.grows wrote_pooled (λ j left pooled. elim (each j (left_torn j left pooled)) [

@@ -15,11 +15,13 @@ log2_all : All IsOurs log2.start log2.events
 log2_all = put_all IsOurs (PreparePlace 2) (PrepareUnit prepare_other) log1 (refl, refl) log1_all
 
 may2 : MayAppend shape view1 (prepare_other ∷ [])
-may2 = may_append shape view1 (prepare_other ∷ []) (omega arith) (refl, refl, tt) (record { mark = refl; checkpoint = refl; boot = refl; group = refl; group_last = refl }, tt) (omega arith, omega arith, omega arith)
+may2 = may_append shape view1 (prepare_other ∷ []) (omega arith) (refl, refl, tt)
+    (record { mark = refl; checkpoint = refl; boot = refl; group = refl; group_last = refl }, tt) (omega arith, omega arith, omega arith)
     (inr (λ same. omega arith, 3, refl, (refl, omega arith)), tt)
 
 stepped : Stepped shape log1 put2 view1 view2
-stepped = prepare_step shape log1 view1 put2 prepare_other leads1.0.leads.rests (λ place wet. absurd (let no_unit : false ≡ true = wet in cc)) leads1.0.tidy.clear may2 (put_one_law (PreparePlace 2) (PrepareUnit prepare_other))
+stepped = prepare_step shape log1 view1 put2 prepare_other leads1.0.leads.rests (λ place wet.
+    absurd (let no_unit : false ≡ true = wet in cc)) leads1.0.tidy.clear may2 (put_one_law (PreparePlace 2) (PrepareUnit prepare_other))
 
 before_left : IsLeftBy log2 (now log1)
 before_left place firm = go (put2 place) refl

@@ -34,7 +34,8 @@ abbrev log1 : UnitLog
 log1 = after_steps boot1.steps made
 
 tidy1 : IsTidy shape log1 (view 51 1)
-tidy1 = (tidy_boot_law shape made (view 50 0) (content 51 1) (copies_of (content 51 1)) (record { rests = tidy_made.rests; quiet = tidy_made.quiet; whole = tidy_made.whole }) (may_boot 50 51 0 (omega arith))).0.tidy
+tidy1 = (tidy_boot_law shape made (view 50 0) (content 51 1) (copies_of (content 51 1))
+    (record { rests = tidy_made.rests; quiet = tidy_made.quiet; whole = tidy_made.whole }) (may_boot 50 51 0 (omega arith))).0.tidy
 
 -- ---- a group of two
 
@@ -95,16 +96,19 @@ all1 : All IsOurs log1.start log1.events
 all1 = copies_all IsOurs (content 51 1) refl (add Synced made) (made_all IsOurs (content 50 0) refl refl)
 
 all2 : All IsOurs log2.start log2.events
-all2 = put_all IsOurs (PreparePlace 2) (PrepareUnit second) (wrote (prepare_put first) log1) (refl, refl) (put_all IsOurs (PreparePlace 1) (PrepareUnit first) log1 (refl, refl) all1)
+all2 = put_all IsOurs (PreparePlace 2) (PrepareUnit second)
+    (wrote (prepare_put first) log1) (refl, refl) (put_all IsOurs (PreparePlace 1) (PrepareUnit first) log1 (refl, refl) all1)
 
 chance : NoChance log2 image
 chance = no_chance IsOurs (distinct_of IsOurs told) log2 all2 image
-    (λ place x is. wrote_pooled (prepare_put second) (wrote (prepare_put first) log1) (wrote_pooled (prepare_put first) log1 tidy1.rests.pooled) place x (without_shows (PreparePlace 1) place (now log2) x is))
+    (λ place x is. wrote_pooled (prepare_put second) (wrote (prepare_put first) log1)
+    (wrote_pooled (prepare_put first) log1 tidy1.rests.pooled) place x (without_shows (PreparePlace 1) place (now log2) x is))
 
 held : Holds shape image (view 51 1)
 held = elim (good.left image left chance) [
   | inl before ↦ before
-  | inr after ↦ absurd (let shown : None ≡ Some (PrepareUnit first) = after.bears.needs (PreparePlace 1) (PrepareUnit first) (first, inl refl, refl, refl) in cc)
+  | inr after ↦ absurd (let shown : None ≡ Some (PrepareUnit
+      first) = after.bears.needs (PreparePlace 1) (PrepareUnit first) (first, inl refl, refl, refl) in cc)
 ]
 
 abbrev log3 : UnitLog
@@ -155,7 +159,8 @@ is_table = record {
     ]
   ];
   inside = λ s reaches. elim reaches [
-    | inl (y, is) ↦ let at : HeaderPlace s ≡ HeaderPlace 1 = ((put_one_law (HeaderPlace 1) (HeaderUnit third.header)).only (HeaderPlace s) y is).0 in let e : s ≡ 1 = cc (at) in omega (arith, e)
+    | inl (y, is) ↦ let at : HeaderPlace s ≡ HeaderPlace 1 =
+        ((put_one_law (HeaderPlace 1) (HeaderUnit third.header)).only (HeaderPlace s) y is).0 in let e : s ≡ 1 = cc (at) in omega (arith, e)
     | inr (inl (y, is)) ↦ let at : HeaderPlace s ≡ HeaderPlace 2 = ((put_one_law (HeaderPlace 2) (HeaderUnit fourth.header)).only (HeaderPlace s) y is).0 in let e : s ≡ 2 = cc (at) in omega (arith, e)
     | inr (inr none) ↦ absurd none
   ];

@@ -5,8 +5,8 @@ use Rattle.df_theory.{specs.{Units.{AnyUnit, Block, BlockPlace, BlockUnit, Conte
 -- ---- the commands
 
 pub tidy_append_law : TidyAppendLaw
-tidy_append_law sh log v p prepare headers tidy may one sector there =
-    let spare_prepare : Spares v prepare = spares_one v prepare (PreparePlace (p.header.op % sh.layout.slots)) (PrepareUnit p) one (λ a same. cc (same)) in
+tidy_append_law sh log v p prepare headers tidy may one sector there = let spare_prepare : Spares v prepare =
+    spares_one v prepare (PreparePlace (p.header.op % sh.layout.slots)) (PrepareUnit p) one (λ a same. cc (same)) in
     let spare_headers : Spares v headers = spares_headers v headers (λ place y is. let e = sector.each place y is in (e.0, e.2)) in
     let top : head (appended v (p ∷ [])) ≡ head v + 1 = omega (arith, length-append v.tail (p ∷ [])) in
     let leads = (append_law sh log v p prepare headers tidy.rests tidy.quiet tidy.clear may one sector).leads in (
@@ -15,10 +15,12 @@ tidy_append_law sh log v p prepare headers tidy may one sector there =
         tidy = record {
           rests = leads.rests;
           quiet = quiet_synced (wrote headers (add Synced (wrote prepare log)));
-          clear = clear_steps sh log v (appended v (p ∷ [])) (append_command v p prepare headers).steps tidy.rests tidy.quiet tidy.clear refl (omega (arith, top)) (
-            (λ s q is own. let at = (one.only (PreparePlace s) (PrepareUnit q) is).1 in let same : q ≡ p = cc in omega (arith, ap (λ (w : Message). w.header.op) same, may.is.turn.0, top)),
-            ((λ s q is own. absurd (let at = (sector.each (PreparePlace s) (PrepareUnit q) is).2 in cc)), tt),
-          );
+          clear = clear_steps sh log v
+              (appended v (p ∷ [])) (append_command v p prepare headers).steps tidy.rests tidy.quiet tidy.clear refl (omega (arith, top)) (
+                (λ s q is own. let at = (one.only (PreparePlace s)
+                    (PrepareUnit q) is).1 in let same : q ≡ p = cc in omega (arith, ap (λ (w : Message). w.header.op) same, may.is.turn.0, top)),
+                ((λ s q is own. absurd (let at = (sector.each (PreparePlace s) (PrepareUnit q) is).2 in cc)), tt),
+              );
           whole = whole_append_law sh (now log) v p prepare headers tidy.rests.holds.bears.sound may one sector there tidy.whole;
         };
       },
@@ -34,7 +36,8 @@ tidy_reply_law sh log v put place r tidy may one =
     )
 
 -- what is loose after a block was written
-quiet_block : (log : UnitLog) (put : Units) (a : ℕ) (b : Block) → IsQuiet log → PutsOne put (BlockPlace a) (BlockUnit b) → IsQuiet (wrote put log)
+quiet_block : (log : UnitLog) (put : Units) (a : ℕ) (b : Block)
+    → IsQuiet log → PutsOne put (BlockPlace a) (BlockUnit b) → IsQuiet (wrote put log)
 quiet_block log put a b quiet one place wet = go (put place) refl
   where
     go : (o : Option AnyUnit) → put place ≡ o → IsBlock place
@@ -42,9 +45,9 @@ quiet_block log put a b quiet one place wet = go (put place) refl
     go (Some y) some = subst IsBlock (sym (one.only place y some).0) tt
 
 pub tidy_block_law : TidyBlockLaw
-tidy_block_law sh log v put a b tidy no_chain one =
-    let kept = block_law sh log v put a b tidy.rests no_chain one in
-    let leads : Leads sh log v (block_command v put) = record { moments = (good_rests sh log v v v tidy.rests (inl refl), kept.1.good); rests = kept.0 } in (
+tidy_block_law sh log v put a b tidy no_chain one = let kept = block_law sh log v put a b tidy.rests no_chain one in
+    let leads : Leads sh log v (block_command v put) =
+    record { moments = (good_rests sh log v v v tidy.rests (inl refl), kept.1.good); rests = kept.0 } in (
       record { leads = leads; tidy = record { rests = kept.0; quiet = quiet_block log put a b tidy.quiet one; clear = tidy.clear; whole = whole_block_law sh (now log) put v a b one tidy.whole } },
       λ standing no_reference. keeps_standing sh log v (block_command v put) refl leads
           (λ e c is. miss put (BlockPlace a) (BlockPlace e) (BlockUnit b) one (λ same. no_reference c (ap v.checkpoint.parts.references (let at : a ≡ e = cc (same) in at) ∙ is)), tt) standing,
@@ -56,8 +59,7 @@ tidy_idle_law sh log v tidy =
     (record { leads = leads; tidy = tidy }, keeps_standing sh log v (idle_command v) refl leads tt)
 
 pub tidy_sync_law : TidySyncLaw
-tidy_sync_law sh log v tidy =
-    let after = synced_after sh v log tidy.rests in
+tidy_sync_law sh log v tidy = let after = synced_after sh v log tidy.rests in
     let leads : Leads sh log v (sync_command v) = record { moments = (good_rests sh log v v v tidy.rests (inl refl), good_rests sh (add Synced log) v v v after (inl refl)); rests = after } in (
       record { leads = leads; tidy = record { rests = after; quiet = quiet_synced log; clear = clear_steps sh log v v (Syncs ∷ []) tidy.rests tidy.quiet tidy.clear refl (omega arith) tt; whole = tidy.whole } },
       keeps_standing sh log v (sync_command v) refl leads tt,
@@ -76,12 +78,12 @@ spare_update w c puts = (
 
 -- the blocks that either view references go on standing
 pub standing_update :
-    (sh : Shape) (log : UnitLog) (v u : View) (c : Content) (puts : PutsCopies c) → RestsOn sh log v → AtEach (IsGoodLog sh v u) (add Synced log) (update_steps puts) → IsStanding log v → Stands (now log) u
+    (sh : Shape) (log : UnitLog) (v u : View) (c : Content) (puts : PutsCopies c)
+    → RestsOn sh log v → AtEach (IsGoodLog sh v u) (add Synced log) (update_steps puts) → IsStanding log v → Stands (now log) u
     → KeepsStanding sh log v (record { steps = Syncs ∷ update_steps puts; view = u })
 standing_update sh log v u c puts rests moments standing references =
     let old : IsStanding (add Synced log) v = record { shown = standing.shown; firm = λ a d is. refl } in
-    let new : IsStanding (add Synced log) u = record { shown = references; firm = λ a d is. refl } in
-    record {
+    let new : IsStanding (add Synced log) u = record { shown = references; firm = λ a d is. refl } in record {
       moments = (
         record { safe = rests_safe sh log v rests; left = λ image left chance. inl (rests_holds sh log v rests image left chance, (stands_law log v [] standing tt).1 image left chance) },
         standing_all sh (add Synced log) v u (update_steps puts) moments old (spare_update v c puts) new (spare_update u c puts),
@@ -122,7 +124,8 @@ spare_append v (Syncs ∷ ss) ts one two = spare_append v ss ts one two
 
 pub spare_table : (v : View) (table : ℕ → Header) (puts : List Units) → AllPutTable table puts → AllSpare v (all_puts puts)
 spare_table v table [] all = tt
-spare_table v table (put ∷ puts) all = (spares_headers v put (λ place y is. let e = all.0 place y is in (e.0, e.1)), spare_table v table puts all.1)
+spare_table v table (put ∷ puts) all =
+    (spares_headers v put (λ place y is. let e = all.0 place y is in (e.0, e.1)), spare_table v table puts all.1)
 
 spare_header_steps : (v : View) (table : ℕ → Header) (puts : List Units) → AllPutTable table puts → AllSpare v (header_steps puts)
 spare_header_steps v table [] all = tt
@@ -139,18 +142,20 @@ quiet_copies (k ∷ ks) log quiet = quiet_copies ks (add Synced (wrote k.1 log))
 
 quiet_headers : (puts : List Units) (log : UnitLog) → IsQuiet log → IsQuiet (after_steps (header_steps puts) log)
 quiet_headers [] log quiet = quiet
-quiet_headers (put ∷ puts) log quiet = subst IsQuiet (sym (after_append (all_puts (put ∷ puts)) (Syncs ∷ []) log)) (quiet_synced (after_steps (all_puts (put ∷ puts)) log))
+quiet_headers (put ∷ puts) log quiet =
+    subst IsQuiet (sym (after_append (all_puts (put ∷ puts)) (Syncs ∷ []) log)) (quiet_synced (after_steps (all_puts (put ∷ puts)) log))
 
 pub tidy_mend_law : TidyMendLaw
-tidy_mend_law sh log v table headers copies may clear =
-    let mended = mend_law sh log v table headers copies may in
-    let spare : AllSpare v (mend_steps headers copies) = spare_append v (header_steps headers) (copy_steps copies) (spare_header_steps v table headers may.puts_headers) (spare_copies v v.checkpoint.content may.agreed.first may.agreed.second copies may.puts_copies) in
+tidy_mend_law sh log v table headers copies may clear = let mended = mend_law sh log v table headers copies may in
+    let spare : AllSpare v (mend_steps headers copies) = spare_append v (header_steps headers) (copy_steps copies) (spare_header_steps
+    v table headers may.puts_headers) (spare_copies v v.checkpoint.content may.agreed.first may.agreed.second copies may.puts_copies) in
     let leads : Leads sh log v (mend_command v headers copies) = record { moments = mended.0; rests = mended.1 } in (
       record {
         leads = leads;
         tidy = record {
           rests = mended.1;
-          quiet = subst IsQuiet (sym (after_append (header_steps headers) (copy_steps copies) log)) (quiet_copies copies (after_steps (header_steps headers) log) (quiet_headers headers log may.quiet));
+          quiet = subst IsQuiet (sym (after_append (header_steps headers) (copy_steps copies) log))
+              (quiet_copies copies (after_steps (header_steps headers) log) (quiet_headers headers log may.quiet));
           clear = clear_steps sh log v v (mend_steps headers copies) may.rests may.quiet clear refl (omega arith)
               (low_append (boot_of v) (head v) (header_steps headers) (copy_steps copies) (low_headers (boot_of v) (head v) table headers may.puts_headers) (low_copies (boot_of v) (head v) v.checkpoint.content may.agreed.first may.agreed.second copies may.puts_copies));
           whole = mends_whole_law sh log v table headers copies may;

@@ -3,7 +3,8 @@ use Rattle.std.proofs.Common.{sym}
 use Rattle.df_theory.{specs.{Shape.{Shape}, View.{View}, UnitLog.{UnitLog}, Device.{Format, IsFormat, IsGoodWholeDisk, units_log}, TidyLaws.{IsGoodWhole, IsTidy}, WholeLaws.{IsStanding}, DeviceLaws.{StandingMomentsLaw, TidyMomentsLaw}}, proofs.Bridge.{safe_disk_law, firm_units, moments, moments_law, same_log}}
 use Rattle.df_base.specs.Log
 
-on_disk : (f : Format) (sh : Shape) (v u : View) → IsFormat f → (log : Log.Log) → Log.IsLog log → IsGoodWhole sh v u (units_log f log) → IsGoodWholeDisk f sh v u log
+on_disk : (f : Format) (sh : Shape) (v u : View)
+    → IsFormat f → (log : Log.Log) → Log.IsLog log → IsGoodWhole sh v u (units_log f log) → IsGoodWholeDisk f sh v u log
 on_disk f sh v u is log whole good = record {
   safe = safe_disk_law f sh log is whole good.safe;
   left = λ image left chance. good.left (f.unit_at image) (firm_units f is log image left.kept) chance;

@@ -7,14 +7,17 @@ tidily_leads : (sh : Shape) (log : UnitLog) (v : View) (cs : List Command) → L
 tidily_leads sh log v [] lead = tt
 tidily_leads sh log v (c ∷ cs) lead = (lead.0.leads, tidily_leads sh (after_steps c.steps log) c.view cs lead.1)
 
-tidy_after : (sh : Shape) (log : UnitLog) (v : View) (cs : List Command) → IsTidy sh log v → LeadTidily sh log v cs → IsTidy sh (after_steps (steps_of cs) log) (view_after v cs)
+tidy_after : (sh : Shape) (log : UnitLog) (v : View) (cs : List Command)
+    → IsTidy sh log v → LeadTidily sh log v cs → IsTidy sh (after_steps (steps_of cs) log) (view_after v cs)
 tidy_after sh log v [] tidy lead = tidy
-tidy_after sh log v (c ∷ cs) tidy lead = subst (λ (l : UnitLog). IsTidy sh l (view_after c.view cs)) (sym (after_append c.steps (steps_of cs) log)) (tidy_after sh (after_steps c.steps log) c.view cs lead.0.tidy lead.1)
+tidy_after sh log v (c ∷ cs) tidy lead = subst (λ (l : UnitLog). IsTidy sh l (view_after c.view cs))
+    (sym (after_append c.steps (steps_of cs) log)) (tidy_after sh (after_steps c.steps log) c.view cs lead.0.tidy lead.1)
 
 pub tidy_run_law : TidyRunLaw
 tidy_run_law sh log v cs tidy lead = (headline_law sh log v cs tidy.rests (tidily_leads sh log v cs lead), tidy_after sh log v cs tidy lead)
 
-survives_whole : (sh : Shape) (v u : View) (l : UnitLog) → IsGoodWhole sh v u l → EachLeft l (λ image. SurvivesWhole sh l image v ⊎ SurvivesWhole sh l image u)
+survives_whole : (sh : Shape) (v u : View) (l : UnitLog)
+    → IsGoodWhole sh v u l → EachLeft l (λ image. SurvivesWhole sh l image v ⊎ SurvivesWhole sh l image u)
 survives_whole sh v u l good image left chance = elim (good.left image left chance) [
   | inl holds ↦ inl (survives sh l image v good.safe left chance holds.0, holds.1)
   | inr holds ↦ inr (survives sh l image u good.safe left chance holds.0, holds.1)

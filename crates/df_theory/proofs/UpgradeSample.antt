@@ -31,7 +31,8 @@ prepare_ranged : (b : Bool) → IsInRange (if b then prepare_with 7 else prepare
 prepare_ranged true = of_other
 prepare_ranged false = of_prepare1
 
-header_ranged : (a b : Bool) → let h : Header = if a then prepare1.header else (if b then (prepare_with 7).header else reserved) in (h.checksum < 2 ^ 128) × (0 < h.op → IsInRange h)
+header_ranged : (a b : Bool) → let h : Header = if a then prepare1.header else (if b then (prepare_with 7).header else reserved) in
+    (h.checksum < 2 ^ 128) × (0 < h.op → IsInRange h)
 header_ranged true b = (omega arith, λ some. of_prepare1)
 header_ranged false true = (omega arith, λ some. of_other)
 header_ranged false false = (omega arith, λ some. absurd (omega arith))
@@ -44,36 +45,35 @@ pub low_bytes : (i : ℕ) → slice_index (0 ∷ []) i < 256
 low_bytes zero = omega arith
 low_bytes (suc i) = omega arith
 
-block_of : (a : ℕ) (y : AnyUnit) (p q : Bool) → or_else (if p then Some (BlockUnit trailer) else None) (or_else (if q then Some (BlockUnit block) else None) None) ≡ Some y → IsOfPlace shape (BlockPlace a) y
-block_of a y true q is = (trailer, (let both : Some (BlockUnit trailer) ≡ Some y = is in let one : y ≡ BlockUnit trailer = cc in one), omega arith, low_bytes)
-block_of a y false true is = (block, (let both : Some (BlockUnit block) ≡ Some y = is in let one : y ≡ BlockUnit block = cc in one), omega arith, λ i. omega arith)
+block_of : (a : ℕ) (y : AnyUnit) (p q : Bool) → or_else (if p then Some (BlockUnit trailer) else None)
+    (or_else (if q then Some (BlockUnit block) else None) None) ≡ Some y → IsOfPlace shape (BlockPlace a) y
+block_of a y true q is =
+    (trailer, (let both : Some (BlockUnit trailer) ≡ Some y = is in let one : y ≡ BlockUnit trailer = cc in one), omega arith, low_bytes)
+block_of a y false true is =
+    (block, (let both : Some (BlockUnit block) ≡ Some y = is in let one : y ≡ BlockUnit block = cc in one), omega arith, λ i. omega arith)
 block_of a y false false is = absurd (let both : None ≡ Some y = is in cc)
 
 places4 : AreOfPlaces shape (now log4)
-places4 (CopyPlace n) x is =
-    let a = holds4.bears.agrees (CopyPlace n) x is in
+places4 (CopyPlace n) x is = let a = holds4.bears.agrees (CopyPlace n) x is in
     let o : a.0 ≡ (if a.0.checksum == 22 then content2 else content1) = subst IsOurs a.1 (ours (CopyPlace n) x is) in
     (a.0, a.1, rw (sym o) at (copy_low (a.0.checksum == 22)))
-places4 (HeaderPlace s) x is =
-    let a = holds4.bears.agrees (HeaderPlace s) x is in
+places4 (HeaderPlace s) x is = let a = holds4.bears.agrees (HeaderPlace s) x is in
     let o : a.0 ≡ header_with a.0.checksum = subst IsOurs a.1 (ours (HeaderPlace s) x is) in
     let r : (a.0.checksum < 2 ^ 128) × (0 < a.0.op → IsInRange a.0) = rw (sym o) at (header_ranged (a.0.checksum == 5) (a.0.checksum == 7)) in
     (a.0, a.1, r.0, λ some. (a.2.slot some, r.1 some))
-places4 (PreparePlace s) x is =
-    let a = holds4.bears.agrees (PreparePlace s) x is in
+places4 (PreparePlace s) x is = let a = holds4.bears.agrees (PreparePlace s) x is in
     let o = subst IsOurs a.1 (ours (PreparePlace s) x is) in
     (a.0, a.1, a.2.slot, rw (sym o.0) at (prepare_ranged (a.0.header.checksum == 7)))
-places4 (ReplyPlace k) x is =
-    let a = holds4.bears.agrees (ReplyPlace k) x is in
-    let o : a.0 ≡ reply1 = subst IsOurs a.1 (ours (ReplyPlace k) x is) in
-    (a.0, a.1, rw o of_reply1, a.2.alone)
+places4 (ReplyPlace k) x is = let a = holds4.bears.agrees (ReplyPlace k) x is in
+    let o : a.0 ≡ reply1 = subst IsOurs a.1 (ours (ReplyPlace k) x is) in (a.0, a.1, rw o of_reply1, a.2.alone)
 places4 (BlockPlace a) x is = block_of a x (1 == a) (2 == a) is
 
 places : AreOfPlaces shape image
 places (CopyPlace n) x is = go (2 == n) is
   where
     go : (b : Bool) → (if b then Some (CopyUnit content2) else now log4 (CopyPlace n)) ≡ Some x → IsOfPlace shape (CopyPlace n) x
-    go true shown = (content2, (let both : Some (CopyUnit content2) ≡ Some x = shown in let one : x ≡ CopyUnit content2 = cc in one), omega arith)
+    go true shown =
+        (content2, (let both : Some (CopyUnit content2) ≡ Some x = shown in let one : x ≡ CopyUnit content2 = cc in one), omega arith)
     go false shown = places4 (CopyPlace n) x shown
 places (HeaderPlace s) x is = places4 (HeaderPlace s) x is
 places (PreparePlace s) x is = places4 (PreparePlace s) x is
@@ -100,7 +100,8 @@ chosen = chosen_above image content1 (agree_at image content1 0 1 (omega arith) 
 ]))
 
 found : IsFound shape image view2
-found = unmasked_found shape image view2 (rw same_masked at (masked_holds shape (now log4) view2 places4 (holds_found shape (now log4) view2 holds4))) chosen
+found = unmasked_found
+    shape image view2 (rw same_masked at (masked_holds shape (now log4) view2 places4 (holds_found shape (now log4) view2 holds4))) chosen
 
 -- ---- it may be raised
 
@@ -122,10 +123,10 @@ stored_named : (k : ℕ) (r : Message) → view2.stored k ≡ Some r → slice_i
 stored_named k r is = go (k == 0) refl is
   where
     go : (b : Bool) → (k == 0) ≡ b → (if b then Some reply1 else view1.stored k) ≡ Some r → slice_index (6 ∷ []) k ≡ r.header.checksum
-    go true at both =
-        let one : reply1 ≡ r = (let two : Some reply1 ≡ Some r = both in cc) in
+    go true at both = let one : reply1 ≡ r = (let two : Some reply1 ≡ Some r = both in cc) in
         ap (λ (i : ℕ). slice_index (6 ∷ []) i) (is_zero k at) ∙ ap (λ (m : Message). m.header.checksum) one
-    go false at both = absurd (never_kept (slice_get (sessions_after first.checkpoint.parts.sessions (first.tail ++ prepare1 ∷ [])) k) (head first) r both)
+    go false at both =
+        absurd (never_kept (slice_get (sessions_after first.checkpoint.parts.sessions (first.tail ++ prepare1 ∷ [])) k) (head first) r both)
 
 spare : (k : ℕ) → 4 ≤ k → slice_index (6 ∷ []) k ≡ 0
 spare zero low = absurd (omega arith)
@@ -164,7 +165,8 @@ unclean clean = elim (clean 2 content2 refl (λ e. omega arith)) [
 -- ---- a stop within copy 2 of the update
 
 abbrev half : UnitLog
-half = add Synced (wrote (put_one (CopyPlace 1) (CopyUnit content3)) (add Synced (wrote (put_one (CopyPlace 0) (CopyUnit content3)) (add Synced (wrote (put_one (CopyPlace 2) (CopyUnit content1)) (restarted_at image))))))
+half = add Synced (wrote (put_one (CopyPlace 1) (CopyUnit content3)) (add Synced (wrote
+    (put_one (CopyPlace 0) (CopyUnit content3)) (add Synced (wrote (put_one (CopyPlace 2) (CopyUnit content1)) (restarted_at image))))))
 
 abbrev log : UnitLog
 log = wrote (put_one (CopyPlace 2) (CopyUnit content3)) half
@@ -176,7 +178,8 @@ left place = if same_place (CopyPlace 2) place then Some (CopyUnit content2) els
 left_by : IsLeftBy log left
 left_by place firm = go (same_place (CopyPlace 2) place) firm
   where
-    go : (b : Bool) → (is_some (if b then Some (CopyUnit content3) else None) || false) ≡ false → (if b then Some (CopyUnit content2) else now half place) ≡ or_else (if b then Some (CopyUnit content3) else None) (now half place)
+    go : (b : Bool) → (is_some (if b then Some (CopyUnit content3) else None) || false) ≡ false
+        → (if b then Some (CopyUnit content2) else now half place) ≡ or_else (if b then Some (CopyUnit content3) else None) (now half place)
     go true wet = absurd (let no_unit : true ≡ false = wet in cc)
     go false dry = refl
 
@@ -185,9 +188,7 @@ abbrev IsKnown : AnyUnit → Type 0
 IsKnown x = IsOurs x ⊎ (x ≡ CopyUnit content3)
 
 no_third : (c : Content) → IsOurs (CopyUnit c) → c.checksum ≡ 31 → ⊥
-no_third c is same =
-    let one : c ≡ content1 = is ∙ ap content_with same in
-    omega (arith, same, ap (λ (x : Content). x.checksum) one)
+no_third c is same = let one : c ≡ content1 = is ∙ ap content_with same in omega (arith, same, ap (λ (x : Content). x.checksum) one)
 
 distinct_third : (x : AnyUnit) → IsOurs x → Distinct x (CopyUnit content3)
 distinct_third (CopyUnit c) is = λ same. absurd (no_third c is same)
@@ -217,8 +218,7 @@ image_known place x is = go (same_place (CopyPlace 2) place) is
     go false shown = inl (ours place x shown)
 
 log_known : All IsKnown log.start log.events
-log_known =
-    let l1 : UnitLog = add Synced (wrote (put_one (CopyPlace 2) (CopyUnit content1)) (restarted_at image)) in
+log_known = let l1 : UnitLog = add Synced (wrote (put_one (CopyPlace 2) (CopyUnit content1)) (restarted_at image)) in
     let a1 : All IsKnown l1.start l1.events = put_all IsKnown (CopyPlace 2) (CopyUnit content1) (restarted_at image) (inl refl) image_known in
     let l2 : UnitLog = add Synced (wrote (put_one (CopyPlace 0) (CopyUnit content3)) l1) in
     let a2 : All IsKnown l2.start l2.events = put_all IsKnown (CopyPlace 0) (CopyUnit content3) l1 (inr refl) a1 in
@@ -228,14 +228,16 @@ log_known =
 left_pooled : (place : Place) (x : AnyUnit) → left place ≡ Some x → InPool log place x
 left_pooled place x is = go (same_place (CopyPlace 2) place) refl is
   where
-    go : (b : Bool) → same_place (CopyPlace 2) place ≡ b → (if b then Some (CopyUnit content2) else now half place) ≡ Some x → InPool log place x
+    go : (b : Bool)
+        → same_place (CopyPlace 2) place ≡ b → (if b then Some (CopyUnit content2) else now half place) ≡ Some x → InPool log place x
     go true at shown = inl (inr (inr (inr (inl (ap (λ (b : Bool). if b then Some (CopyUnit content2) else now log4 place) at ∙ shown)))))
     go false at shown = inl (inl shown)
 
 chance : NoChance log left
 chance = record {
   pooled = left_pooled;
-  distinct = λ place other x y one two. distinct_known x y (pools_all IsKnown log.start log.events log_known place x one) (pools_all IsKnown log.start log.events log_known other y two);
+  distinct = λ place other x y one two. distinct_known
+      x y (pools_all IsKnown log.start log.events log_known place x one) (pools_all IsKnown log.start log.events log_known other y two);
 }
 
 -- the new superblock has two votes

@@ -1,12 +1,9 @@
 -- The causes of what is printed, of a file that isn't opened, and of a session.
-use Rattle.std.proofs.Common.{◌≡◌, ℕ, Bool, List, [], ◌∷◌, Option, Some, None, refl, subst, Err}
-use Rattle.df_base.specs.Causes.{IsBlamed, Rose}
-use Rattle.df_model.specs.{declared.errors.OpenError.{OpenError}, Faults.{is_open_fault}}
+use Rattle.{std.proofs.Common.{◌≡◌, ℕ, Bool, List, [], ◌∷◌, Option, Some, None, refl, subst, Err}, df_base.specs.Causes.{IsBlamed, Rose}}
+use Rattle.{df_model.specs.{declared.errors.OpenError.{OpenError}, Faults.{is_open_fault}}, df_layout.specs.declared.damage.Mend.{Mend}}
 use Rattle.df_program.proofs.Laws.{AreApart, fault_causes, open_causes, refusal_ends, text_causes, text_ends}
 use Rattle.df_top.specs.{Outside.{Blames, HasCauses, Outside, PrintsLine, counts}, Refusing.{PrintsOpenError}, Reporting.{status_of}, Lines.{Turned, act_of}, Session.{Ended, EndsWith, SessionState}, declared.status.Status.{Status}, declared.status.Status.TheVariants.{Done, Refused, DiskFault, Memory, ReadFault, Words, WriteFault}}
-use Rattle.df_layout.specs.declared.damage.Mend.{Mend}
-use Rattle.df_pace.specs.declared.pace.Pace.{Pace}
-use Rattle.df_session.specs.Session.{Act}
+use Rattle.{df_pace.specs.declared.pace.Pace.{Pace}, df_session.specs.Session.{Act}}
 
 -- no fault of a run is another one
 apart : AreApart DiskFault ReadFault WriteFault
@@ -29,25 +26,32 @@ pub calm_report : (mends : List Mend) → IsCalm (status_of mends)
 calm_report [] = calm_done
 calm_report (m ∷ more) = record { disk = λ no. cc; source = λ no. cc; memory = λ no. cc; words = λ no. cc }
 
-pub never_printed : (line : List ℕ) (given : Status) (old new : Option (List ℕ)) (status : Status) → IsCalm given → PrintsLine line given old new status → (status ≡ Memory → ⊥) × (status ≡ Words → ⊥)
+pub never_printed : (line : List ℕ) (given : Status) (old new : Option (List ℕ)) (status : Status)
+    → IsCalm given → PrintsLine line given old new status → (status ≡ Memory → ⊥) × (status ≡ Words → ⊥)
 never_printed line given old new status calm prints = (text_ends WriteFault line given Memory old new status prints calm.memory (λ no. cc), text_ends WriteFault line given Words old new status prints calm.words (λ no. cc))
 
 module _ (disk disk_now source sink sink_now : ℕ) (old new : Option (List ℕ)) (status : Status) where
   abbrev Causes : Type 0
   Causes = HasCauses (counts disk source sink) (counts disk_now source sink_now) status
 
-  pub line_causes : (line : List ℕ) (given : Status) → IsCalm given → disk_now ≡ disk → PrintsLine line given old new status → Blames WriteFault sink sink_now status → Causes
-  line_causes line given calm same printed blame = text_causes DiskFault ReadFault WriteFault apart (counts disk source sink) (counts disk_now source sink_now) old new status refl blame line given calm.disk calm.source same printed
+  pub line_causes : (line : List ℕ) (given : Status)
+      → IsCalm given → disk_now ≡ disk → PrintsLine line given old new status → Blames WriteFault sink sink_now status → Causes
+  line_causes line given calm same printed blame = text_causes DiskFault ReadFault WriteFault apart
+      (counts disk source sink) (counts disk_now source sink_now) old new status refl blame line given calm.disk calm.source same printed
 
   pub failed_causes : status ≡ DiskFault → Rose disk disk_now → Blames WriteFault sink sink_now status → Causes
-  failed_causes is rose blame = fault_causes DiskFault ReadFault WriteFault apart (counts disk source sink) (counts disk_now source sink_now) old new status refl blame is rose
+  failed_causes is rose blame = fault_causes
+      DiskFault ReadFault WriteFault apart (counts disk source sink) (counts disk_now source sink_now) old new status refl blame is rose
 
   -- a file isn't opened
-  pub refused_causes : (T : Type 0) (e : OpenError) → IsBlamed {T = T} is_open_fault disk disk_now (Err e) → PrintsOpenError e old new status → Blames WriteFault sink sink_now status → Causes
-  refused_causes T e blamed prints blame = open_causes DiskFault ReadFault WriteFault apart (counts disk source sink) (counts disk_now source sink_now) old new status refl blame T e Refused (λ no. cc) (λ no. cc) blamed prints
+  pub refused_causes : (T : Type 0) (e : OpenError) → IsBlamed {T = T} is_open_fault disk disk_now (Err e)
+      → PrintsOpenError e old new status → Blames WriteFault sink sink_now status → Causes
+  refused_causes T e blamed prints blame = open_causes DiskFault ReadFault WriteFault apart
+      (counts disk source sink) (counts disk_now source sink_now) old new status refl blame T e Refused (λ no. cc) (λ no. cc) blamed prints
 
 -- neither want of memory nor other words are answered of such a file
-pub refused_never : (e : OpenError) (old new : Option (List ℕ)) (status : Status) → PrintsOpenError e old new status → (status ≡ Memory → ⊥) × (status ≡ Words → ⊥)
+pub refused_never : (e : OpenError) (old new : Option (List ℕ)) (status : Status)
+    → PrintsOpenError e old new status → (status ≡ Memory → ⊥) × (status ≡ Words → ⊥)
 refused_never e old new status prints = (
   refusal_ends Refused DiskFault WriteFault Memory e old new status prints (λ no. cc) (λ no. cc) (λ no. cc),
   refusal_ends Refused DiskFault WriteFault Words e old new status prints (λ no. cc) (λ no. cc) (λ no. cc),
@@ -55,15 +59,18 @@ refused_never e old new status prints = (
 
 -- nor at the end of a session
 
-no_memory : (n : ℕ) (old new : Outside) (turns : List Turned) (failed : Option Act) (cut : Bool) → EndsWith n old new turns failed cut Memory → ⊥
+no_memory : (n : ℕ) (old new : Outside) (turns : List Turned) (failed : Option Act) (cut : Bool)
+    → EndsWith n old new turns failed cut Memory → ⊥
 no_memory n old new turns None cut ends = ends
 no_memory n old new turns (Some a) cut ends = ends
 
-no_words : (n : ℕ) (old new : Outside) (turns : List Turned) (failed : Option Act) (cut : Bool) → EndsWith n old new turns failed cut Words → ⊥
+no_words : (n : ℕ) (old new : Outside) (turns : List Turned) (failed : Option Act) (cut : Bool)
+    → EndsWith n old new turns failed cut Words → ⊥
 no_words n old new turns None cut ends = ends
 no_words n old new turns (Some a) cut ends = ends
 
-pub ended_never : (pace : Pace) (bound : ℕ) (origin now : SessionState) (status : Status) → Ended pace bound origin now status → (status ≡ Memory → ⊥) × (status ≡ Words → ⊥)
+pub ended_never : (pace : Pace) (bound : ℕ) (origin now : SessionState) (status : Status)
+    → Ended pace bound origin now status → (status ≡ Memory → ⊥) × (status ≡ Words → ⊥)
 ended_never pace bound origin now status e =
     let with : Status → Type 0 = EndsWith origin.lines origin.outside now.outside e.turns (act_of e.failing) e.cut in (
       λ is. no_memory origin.lines origin.outside now.outside e.turns (act_of e.failing) e.cut (subst with is e.written),

@@ -1,8 +1,6 @@
 -- The referenced blocks stand in order of address: what a step checks, and what is left to be checked after it.
-use Rattle.std.proofs.Common.{◌≡◌, ℕ, ◌+◌, List, [], ◌∷◌, length, Option, refl, sym, ◌∙◌, ap, arith}
-use Rattle.df_base.specs.Image.{Image}
-use Rattle.df_disk.specs.Told.{Told}
-use Rattle.df_layout.specs.declared.damage.Finding.{Finding}
+use Rattle.{std.proofs.Common.{◌≡◌, ℕ, ◌+◌, List, [], ◌∷◌, length, Option, refl, sym, ◌∙◌, ap, arith}, df_base.specs.Image.{Image}}
+use Rattle.{df_disk.specs.Told.{Told}, df_layout.specs.declared.damage.Finding.{Finding}}
 use Rattle.df_model.{specs.{Blocks.{reference_in}, Memory.{referenced_of}, Reading.{with_finding}, declared.answers.Scrubbed.{Scrubbed}, declared.answers.Scrubbed.TheVariants.{Checked, TourEnd}, declared.answers.Verdict.{Verdict}, declared.answers.Verdict.TheVariants.{Sound, Failing}}, proofs.Laws.{Rise, above, entries_rise, is_next}}
 use Rattle.df_session.specs.Below.{IsStep, IsVerdict, ScrubState, after_scrub_step, left_in, with_check, failing_among, State as Replica, grid_with, memory}
 
@@ -53,23 +51,25 @@ pub check_fails : (s : ScrubState) (a : ℕ) (v : Verdict) → (with_check s a v
 check_fails s a Sound = omega arith
 check_fails s a (Failing class) = omega arith
 
-was_checked : (r : Replica) (told : Option Told) (s t : ScrubState) (a : ℕ) (v : Verdict) (xs : List (ℕ × ℕ)) → left_of r s ≡ xs → IsVerdictOf r told xs v → after_scrub_step s v xs ≡ (t, Checked a v) → IsChecked r told s t a v
-was_checked r told s t a v [] left verdict goes = absurd (let answer : TourEnd s.tour.checked s.tour.failing ≡ Checked a v = ap (λ (p : ScrubState × Scrubbed). p.1) goes in cc)
+was_checked : (r : Replica) (told : Option Told) (s t : ScrubState) (a : ℕ) (v : Verdict) (xs : List (ℕ × ℕ))
+    → left_of r s ≡ xs → IsVerdictOf r told xs v → after_scrub_step s v xs ≡ (t, Checked a v) → IsChecked r told s t a v
+was_checked r told s t a v [] left verdict goes =
+    absurd (let answer : TourEnd s.tour.checked s.tour.failing ≡ Checked a v = ap (λ (p : ScrubState × Scrubbed). p.1) goes in cc)
 was_checked r told s t a v (x ∷ more) left verdict goes =
     let after : with_check s x.0 v ≡ t = ap (λ (p : ScrubState × Scrubbed). p.0) goes in
-    let answer : Checked x.0 v ≡ Checked a v = ap (λ (p : ScrubState × Scrubbed). p.1) goes in
-    let same : a ≡ x.0 = cc in
-    record {
+    let answer : Checked x.0 v ≡ Checked a v = ap (λ (p : ScrubState × Scrubbed). p.1) goes in let same : a ≡ x.0 = cc in record {
       x = x;
       more = more;
       address = same;
       left = left;
       after = sym after ∙ ap (λ (n : ℕ). with_check s n v) (sym same);
-      rest = ap (λ (u : ScrubState). left_of r u) (sym after) ∙ ap (λ (n : ℕ). above n (referenced r)) (check_last s x.0 v) ∙ (is_next s.tour.last 1 (1 + r.file.layout.blocks) (referenced r) x more (referenced_rise r) left).behind;
+      rest = ap (λ (u : ScrubState). left_of r u) (sym after) ∙ ap (λ (n : ℕ). above n (referenced r)) (check_last s x.0 v)
+          ∙ (is_next s.tour.last 1 (1 + r.file.layout.blocks) (referenced r) x more (referenced_rise r) left).behind;
       verdict = verdict;
     }
 
-pub checked : (r : Replica) (told : Option Told) (s t : ScrubState) (a : ℕ) (v : Verdict) → IsStepOf r s t told (Checked a v) → IsChecked r told s t a v
+pub checked : (r : Replica) (told : Option Told) (s t : ScrubState) (a : ℕ) (v : Verdict)
+    → IsStepOf r s t told (Checked a v) → IsChecked r told s t a v
 checked r told s t a v step = was_checked r told s t a v (left_of r s) refl step.verdict step.goes
 
 -- at the end of the tour nothing is left, and its counts are told
@@ -78,11 +78,13 @@ pub record IsEnded (r : Replica) (s : ScrubState) (checked failing : ℕ) : Type
   pub counts : checked ≡ s.tour.checked
   pub fails : failing ≡ s.tour.failing
 
-was_ended : (r : Replica) (s t : ScrubState) (v : Verdict) (n f : ℕ) (xs : List (ℕ × ℕ)) → left_of r s ≡ xs → after_scrub_step s v xs ≡ (t, TourEnd n f) → IsEnded r s n f
+was_ended : (r : Replica) (s t : ScrubState) (v : Verdict) (n f : ℕ) (xs : List (ℕ × ℕ))
+    → left_of r s ≡ xs → after_scrub_step s v xs ≡ (t, TourEnd n f) → IsEnded r s n f
 was_ended r s t v n f [] left goes =
     let answer : TourEnd s.tour.checked s.tour.failing ≡ TourEnd n f = ap (λ (p : ScrubState × Scrubbed). p.1) goes in
     record { left = left; counts = cc; fails = cc }
-was_ended r s t v n f (x ∷ more) left goes = absurd (let answer : Checked x.0 v ≡ TourEnd n f = ap (λ (p : ScrubState × Scrubbed). p.1) goes in cc)
+was_ended r s t v n f (x ∷ more) left goes =
+    absurd (let answer : Checked x.0 v ≡ TourEnd n f = ap (λ (p : ScrubState × Scrubbed). p.1) goes in cc)
 
 pub ended : (r : Replica) (told : Option Told) (s t : ScrubState) (n f : ℕ) → IsStepOf r s t told (TourEnd n f) → IsEnded r s n f
 ended r told s t n f step = was_ended r s t Sound n f (left_of r s) refl step.goes

@@ -1,7 +1,6 @@
 -- What each call of a generated run comes to, by what the run hears of its answer.
 use Rattle.std.proofs.{Common.{◌≡◌, ◌<◌, ℕ, Bool, true, List, [], ◌∷◌, length, Option, Some, None, refl, sym, ap, subst, Result, Ok, Err, arith}, lemmas.Option.{none-some}}
-use Rattle.df_disk.specs.Told.{Told}
-use Rattle.df_format.specs.declared.reference.Reference.{Reference}
+use Rattle.{df_disk.specs.Told.{Told}, df_format.specs.declared.reference.Reference.{Reference}}
 use Rattle.df_model.specs.{Commands.{Advance, Answer as Answered, Append, Begin, Command, Flush, Release, Reply, Scrub, Stage, WriteBlock}, declared.answers.Progress.{Progress}, declared.answers.Progress.TheVariants.{Done, Working}, declared.answers.Receipt.{Receipt}, declared.commands.Answer.{Answer}, declared.errors.AppendError.{AppendError}, declared.errors.BeginError.{BeginError}, declared.errors.BlockError.{BlockError}, declared.errors.FlushError.{FlushError}, declared.errors.NotLive.{NotLive}, declared.errors.ReplyError.{ReplyError}, declared.errors.StepError.{StepError}}
 use Rattle.df_model.specs.declared.commands.Answer.TheVariants as answers
 use Rattle.df_model.specs.declared.errors.AppendError.TheVariants as append
@@ -45,13 +44,15 @@ release_running : (s t : Replica) (address : ℕ) (r : Result (Unit {0}) NotLive
 release_running s t address (Ok done) is = ap (λ (r : Replica). r.running) is.1
 release_running s t address (Err e) is = same_running s t is.1
 
-stage_running : (s t : Replica) (client request : ℕ) (body : List ℕ) (r : Result ℕ AppendError) → IsStage client request body s t r → t.running ≡ s.running
+stage_running : (s t : Replica) (client request : ℕ) (body : List ℕ) (r : Result ℕ AppendError)
+    → IsStage client request body s t r → t.running ≡ s.running
 stage_running s t client request body (Ok op) is = ap (λ (r : Replica). r.running) is.2
 stage_running s t client request body (Err e) is = same_running s t is.1
 
 -- so it does after each other call
 module _ (s t : Replica) (old new : Option Told) where
-  append_running : (client request : ℕ) (body : List ℕ) (r : Result Receipt AppendError) → IsAppendCall client request body s t old new r → t.running ≡ s.running
+  append_running : (client request : ℕ) (body : List ℕ) (r : Result Receipt AppendError)
+      → IsAppendCall client request body s t old new r → t.running ≡ s.running
   append_running client request body (Ok x) is = ap (λ (r : Replica). r.running) is.2
   append_running client request body (Err append.DiskFault) is = ap (λ (r : Replica). r.running) is.1
   append_running client request body (Err append.ClientZero) is = same_running s t is.1
@@ -84,7 +85,8 @@ module _ (s t : Replica) (old new : Option Told) where
   write_running kind body (Err (block.BodyTooLong a)) is = same_running s t is.1
   write_running kind body (Err (block.GridFull a)) is = same_running s t is.1
 
-begin_on : (s t : Replica) (root : List ℕ) (r : Result ℕ BeginError) → IsBegin root s t r → StillRuns (Begin root) s t (Ok (outcome_in (answers.Begin r)))
+begin_on : (s t : Replica) (root : List ℕ) (r : Result ℕ BeginError)
+    → IsBegin root s t r → StillRuns (Begin root) s t (Ok (outcome_in (answers.Begin r)))
 begin_on s t root (Ok blocks) is = λ flag had set. subst (λ (r : Replica). IsRunning r) (sym is.2) tt
 begin_on s t root (Err e) is = stays s t (same_running s t is.1)
 
@@ -98,11 +100,13 @@ runs_on : (s t : Replica) (running : Option RunningState) → OfRunning running 
 runs_on s t None is = absurd is
 runs_on s t (Some r) is = subst (λ (u : Replica). IsRunning u) (sym is) tt
 
-one_less : (s : Replica) (r : RunningState) (left : List ℕ) → (left ≡ [] → ⊥) → length (advanced (record s { blocks = record s.blocks { left = left } }) r).blocks.left < length left
+one_less : (s : Replica) (r : RunningState) (left : List ℕ)
+    → (left ≡ [] → ⊥) → length (advanced (record s { blocks = record s.blocks { left = left } }) r).blocks.left < length left
 one_less s r [] some = absurd (some refl)
 one_less s r (a ∷ more) some = omega arith
 
-fewer : (s t : Replica) (running : Option RunningState) → OfRunning running (λ r. (s.blocks.left ≡ [] → ⊥) × (t ≡ advanced s r)) → length t.blocks.left < length s.blocks.left
+fewer : (s t : Replica) (running : Option RunningState)
+    → OfRunning running (λ r. (s.blocks.left ≡ [] → ⊥) × (t ≡ advanced s r)) → length t.blocks.left < length s.blocks.left
 fewer s t None is = absurd is
 fewer s t (Some r) is = subst (λ (u : Replica). length u.blocks.left < length s.blocks.left) (sym is.1) (one_less s r s.blocks.left is.0)
 
@@ -111,14 +115,16 @@ none_left s t None is = absurd is
 none_left s t (Some r) is = ap (λ (u : Replica). u.blocks.left) is
 
 module _ (s t : Replica) (old new : Option Told) where
-  step_on : (r : Result Progress StepError) → IsStepCall s t old new r → (x : Answered) → machine_answer (answers.Advance r) ≡ Some x → StillRuns Advance s t (Ok (outcome_in (answers.Advance r)))
+  step_on : (r : Result Progress StepError) → IsStepCall s t old new r
+      → (x : Answered) → machine_answer (answers.Advance r) ≡ Some x → StillRuns Advance s t (Ok (outcome_in (answers.Advance r)))
   step_on (Ok (Working left)) is x said = λ flag had set. runs_on s t s.running (on_running s.running (λ r i. i.2) is)
   step_on (Ok (Done sequence)) is x said = λ flag had set. absurd (cc)
   step_on (Err step.NotRunning) is x said = stays s t (same_running s t is.1)
   step_on (Err (step.Damaged place class)) is x said = absurd (none-some x said)
   step_on (Err step.DiskFault) is x said = absurd (none-some x said)
 
-  step_steps : (r : Result Progress StepError) → IsStepCall s t old new r → (x : Answered) → machine_answer (answers.Advance r) ≡ Some x → StepsOn s t (Ok (outcome_in (answers.Advance r)))
+  step_steps : (r : Result Progress StepError) → IsStepCall s t old new r
+      → (x : Answered) → machine_answer (answers.Advance r) ≡ Some x → StepsOn s t (Ok (outcome_in (answers.Advance r)))
   step_steps (Ok (Working left)) is x said = fewer s t s.running (on_running s.running (λ r i. (i.0, i.2)) is)
   step_steps (Ok (Done sequence)) is x said = none_left s t s.running (on_running s.running (λ r i. i.2) is)
   step_steps (Err step.NotRunning) is x said = not_running s is.0
@@ -135,23 +141,25 @@ pub record Call (command : Command) (s t : Replica) (old new : Option Told) (out
 
 module _ (s t : Replica) (old new : Option Told) (a : Answer) (x : Answered) (said : machine_answer a ≡ Some x) where
   exact_on : (command : Command) → IsExact command s t old new a → StillRuns command s t (Ok (outcome_in a))
-  exact_on (Append client request body) is = append_on s t (append_running s t old new client request body is.0 is.2) client request body (outcome_in a)
+  exact_on (Append client request body) is =
+      append_on s t (append_running s t old new client request body is.0 is.2) client request body (outcome_in a)
   exact_on (Stage client request body) is = stage_on s t (stage_running s t client request body is.0 is.2) client request body (outcome_in a)
   exact_on Flush is = flush_on s t (flush_running s t old new is.0 is.2) (outcome_in a)
   exact_on (Reply op body) is = reply_on s t (reply_running s t old new op body is.0 is.2) op body (outcome_in a)
   exact_on (WriteBlock kind body) is = write_on s t (write_running s t old new kind body is.0 is.2) kind body (outcome_in a)
   exact_on (Release address) is = release_on s t (release_running s t address is.0 is.2) address (outcome_in a)
   exact_on (Begin root) is = subst (λ (y : Answer). StillRuns (Begin root) s t (Ok (outcome_in y))) (sym is.1) (begin_on s t root is.0 is.2)
-  exact_on Advance is = subst (λ (y : Answer). StillRuns Advance s t (Ok (outcome_in y))) (sym is.1) (step_on s t old new is.0 is.2 x (rw is.1 at said))
+  exact_on Advance is =
+      subst (λ (y : Answer). StillRuns Advance s t (Ok (outcome_in y))) (sym is.1) (step_on s t old new is.0 is.2 x (rw is.1 at said))
   exact_on Scrub is = stays s t (ap (λ (r : Replica). r.running) is.2.0)
   exact_on command is = absurd is
 
   exact_steps : (command : Command) → IsExact command s t old new a → command ≡ Advance → StepsOn s t (Ok (outcome_in a))
-  exact_steps command exact is =
-      let step = rw is at exact in
+  exact_steps command exact is = let step = rw is at exact in
       subst (λ (y : Answer). StepsOn s t (Ok (outcome_in y))) (sym step.1) (step_steps s t old new step.0 step.2 x (rw step.1 at said))
 
-pub heard_call : (command : Command) (s t : Replica) (old new : Option Told) (a : Answer) → GivesAnswer command s t old new a → Call command s t old new (outcome_in a)
+pub heard_call : (command : Command) (s t : Replica) (old new : Option Told) (a : Answer)
+    → GivesAnswer command s t old new a → Call command s t old new (outcome_in a)
 heard_call command s t old new a gives = record {
   makes = (gives.told, gives.makes, (same_words command gives.told a gives.in_words).1);
   runs = exact_on s t old new a gives.told gives.in_words command gives.exact;

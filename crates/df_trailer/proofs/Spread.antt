@@ -10,7 +10,8 @@ pub record IsSpread (x blocks : ℕ) (old now : List (List ℕ)) (rank place : �
   pub moved : (i : ℕ) → place ≤ i → i < blocks → (bit_at x i == 1) ≡ true → get_or now i [] ≡ get_or old (ones (bits_of i x)) []
   pub empty : (i : ℕ) → place ≤ i → i < blocks → (bit_at x i == 1) ≡ false → get_or now i [] ≡ replicate 16 0
 
-pub spread_first : (x blocks : ℕ) (old : List (List ℕ)) (rank : ℕ) → length old ≡ blocks → rank ≡ ones (bits_of blocks x) → IsSpread x blocks old old rank blocks
+pub spread_first : (x blocks : ℕ) (old : List (List ℕ)) (rank : ℕ)
+    → length old ≡ blocks → rank ≡ ones (bits_of blocks x) → IsSpread x blocks old old rank blocks
 spread_first x blocks old rank size is = record {
   size = size;
   ranked = is;
@@ -31,25 +32,19 @@ both false a e = absurd (cc)
 
 -- a set bit counts
 pub rank_set : (x p rank : ℕ) → rank ≡ ones (bits_of (p + 1) x) → (bit_at x p == 1) ≡ true → rank ≡ ones (bits_of p x) + 1
-rank_set x p rank is set =
-    let one : bit_at x p ≡ 1 = eqb-true (bit_at x p) 1 set in
-    let more = ones_more p x in
-    let up : ones (bits_of (p + 1) x) ≡ ones (bits_of (suc p) x) = ap (λ (k : ℕ). ones (bits_of k x)) (next p) in
-    omega arith
+rank_set x p rank is set = let one : bit_at x p ≡ 1 = eqb-true (bit_at x p) 1 set in let more = ones_more p x in
+    let up : ones (bits_of (p + 1) x) ≡ ones (bits_of (suc p) x) = ap (λ (k : ℕ). ones (bits_of k x)) (next p) in omega arith
 
 pub rank_unset : (x p rank : ℕ) → rank ≡ ones (bits_of (p + 1) x) → (bit_at x p == 1) ≡ false → rank ≡ ones (bits_of p x)
-rank_unset x p rank is unset =
-    let none : bit_at x p ≡ 0 = bit_is_none x p (bit_at x p == 1) refl unset in
-    let more = ones_more p x in
-    let up : ones (bits_of (p + 1) x) ≡ ones (bits_of (suc p) x) = ap (λ (k : ℕ). ones (bits_of k x)) (next p) in
-    omega arith
+rank_unset x p rank is unset = let none : bit_at x p ≡ 0 = bit_is_none x p (bit_at x p == 1) refl unset in let more = ones_more p x in
+    let up : ones (bits_of (p + 1) x) ≡ ones (bits_of (suc p) x) = ap (λ (k : ℕ). ones (bits_of k x)) (next p) in omega arith
 
-pub spread_set : (x blocks : ℕ) (old now : List (List ℕ)) (rank place p r : ℕ) → place ≡ p + 1 → rank ≡ r + 1 → place ≤ blocks → (bit_at x p == 1) ≡ true
+pub spread_set : (x blocks : ℕ) (old now : List (List ℕ)) (rank place p r : ℕ)
+    → place ≡ p + 1 → rank ≡ r + 1 → place ≤ blocks → (bit_at x p == 1) ≡ true
     → IsSpread x blocks old now rank place → IsSpread x blocks old (set now p (get_or now r [])) r p
 spread_set x blocks old now rank place p r at ranked within is was =
     let counts : rank ≡ ones (bits_of p x) + 1 = rank_set x p rank (was.ranked ∙ ap (λ (k : ℕ). ones (bits_of k x)) at) is in
-    let few = few_ones p x in
-    let mine : r ≡ ones (bits_of p x) = omega arith in
+    let few = few_ones p x in let mine : r ≡ ones (bits_of p x) = omega arith in
     let there : get_or now r [] ≡ get_or old (ones (bits_of p x)) [] = was.below r (omega arith) ∙ ap (λ (k : ℕ). get_or old k []) mine in
     record {
       size = length-set now p (get_or now r []) ∙ was.size;
@@ -78,7 +73,8 @@ spread_unset x blocks old now rank place p at within is was = record {
     | inr other ↦ get_or-set_other now p i (replicate 16 0) [] other ∙ was.moved i (omega arith) inside one
   ];
   empty = λ i late inside unset. elim (cases_eq i p) [
-    | inl here ↦ ap (λ (k : ℕ). get_or (set now p (replicate 16 0)) k []) here ∙ get_or-set_same now p (replicate 16 0) [] (omega (arith, was.size))
+    | inl here ↦
+        ap (λ (k : ℕ). get_or (set now p (replicate 16 0)) k []) here ∙ get_or-set_same now p (replicate 16 0) [] (omega (arith, was.size))
     | inr other ↦ get_or-set_other now p i (replicate 16 0) [] other ∙ was.empty i (omega arith) inside unset
   ];
 }

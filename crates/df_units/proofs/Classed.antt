@@ -17,10 +17,9 @@ copy_none (Some copy) is = absurd (cc)
 
 copy_told : (image : Image) (n : ℕ) → (class_of_copy n (image n) ≢ Stale) ↔ (copy_unit (content_at image n) ≡ None)
 copy_told image n = (
-  λ other. ap (λ (o : Option SuperCopy). copy_unit (content_in_copy o)) (no_some (copy_at image n) (λ copy is. other (valid_is_stale image n copy is))),
-  λ none stale.
-      let found = stale_copy image n stale in
-      let some : None ≡ Some found.0 = sym (copy_none (copy_at image n) none) ∙ found.1 in
+  λ other. ap (λ (o : Option SuperCopy).
+      copy_unit (content_in_copy o)) (no_some (copy_at image n) (λ copy is. other (valid_is_stale image n copy is))),
+  λ none stale. let found = stale_copy image n stale in let some : None ≡ Some found.0 = sym (copy_none (copy_at image n) none) ∙ found.1 in
       absurd (cc),
 )
 
@@ -30,14 +29,13 @@ no_message place None some is = refl
 no_message place (Some u) some is = absurd (some u is)
 
 module _ (layout : Layout) (cluster : ℕ) (image : Image) (place : Units.Place) (some : (u : Message) → unit_of place u ≡ None → ⊥) where
-  message_told : (Shown.class_at layout cluster image (place_of place) ≢ Stale) ↔ (message_unit place (Shown.unit_at layout cluster image (place_of place)) ≡ None)
+  message_told : (Shown.class_at layout cluster image (place_of place) ≢ Stale)
+      ↔ (message_unit place (Shown.unit_at layout cluster image (place_of place)) ≡ None)
   unfolding Shown.class_at Shown.unit_at
   message_told = (
     λ other. ap (message_unit place) (no_some _ (λ u is. other (valid_stale layout cluster (place_of place) _ u is))),
-    λ none stale.
-        let found = stale_valid layout cluster (place_of place) _ stale in
-        let both : None ≡ Some found.0 = sym (no_message place _ some none) ∙ found.1 in
-        absurd (cc),
+    λ none stale. let found = stale_valid layout cluster (place_of place) _ stale in
+        let both : None ≡ Some found.0 = sym (no_message place _ some none) ∙ found.1 in absurd (cc),
   )
 
 pub classes_told : ClassesTell
@@ -76,7 +74,8 @@ some_kind : (none some kind : Kind) (n : ℕ) → (none ≡ some → ⊥) → Is
 some_kind none some kind n apart (inl is) = (λ same. absurd (apart (sym is.0 ∙ same)), λ more. absurd (omega (arith, is.1, more)))
 some_kind none some kind n apart (inr is) = (λ _. is.1, λ _. is.0)
 
-neither_kind : (none some kind other : Kind) (n : ℕ) → (none ≡ other → ⊥) → (some ≡ other → ⊥) → IsEither none some kind n → (kind ≡ other) ↔ ⊥
+neither_kind : (none some kind other : Kind) (n : ℕ)
+    → (none ≡ other → ⊥) → (some ≡ other → ⊥) → IsEither none some kind n → (kind ≡ other) ↔ ⊥
 neither_kind none some kind other n first second (inl is) = (λ same. first (sym is.0 ∙ same), λ no. absurd no)
 neither_kind none some kind other n first second (inr is) = (λ same. second (sym is.0 ∙ same), λ no. absurd no)
 
@@ -101,29 +100,34 @@ block_kind u kind is = neither_kind Trailer Block u.header.kind kind u.header.bl
 -- ---- what is wanted
 
 -- a checksum is the one that is wanted exactly where its number is
-check_told : (u : Message) (checksum : List ℕ) → IsSealed u.header → IsCheck checksum → (u.header.checksum ≡ checksum) ↔ (number_of u.header.checksum ≡ number_of checksum)
+check_told : (u : Message) (checksum : List ℕ)
+    → IsSealed u.header → IsCheck checksum → (u.header.checksum ≡ checksum) ↔ (number_of u.header.checksum ≡ number_of checksum)
 check_told u checksum is fits = (λ same. ap number_of same, λ same. one_number u.header.checksum checksum (sealed_check u.header is) fits same)
 
 no_op : (u : Message) (op : ℕ) (kind : Kind) → u.header.kind ≡ kind → (kind ≡ Prepare → ⊥) → Wanted.IsOp op u ↔ ⊥
 no_op u op kind is differs = (λ wanted. differs (sym is ∙ wanted.kind), λ none. absurd none)
 
-no_answer : (u : Message) (client request op : ℕ) (kind : Kind) → u.header.kind ≡ kind → (kind ≡ Reply → ⊥) → Wanted.IsAnswer client request op u ↔ ⊥
+no_answer : (u : Message) (client request op : ℕ) (kind : Kind)
+    → u.header.kind ≡ kind → (kind ≡ Reply → ⊥) → Wanted.IsAnswer client request op u ↔ ⊥
 no_answer u client request op kind is differs = (λ wanted. differs (sym is ∙ wanted.kind), λ none. absurd none)
 
-prepare_wanted : (u : Message) (wanted : Wanted.Wanted) → HasWantedCheck wanted → IsSealed u.header → u.header.kind ≡ Prepare → Wanted.IsWanted wanted u ↔ IsWantedUnit wanted (PrepareUnit (message_of u))
+prepare_wanted : (u : Message) (wanted : Wanted.Wanted) → HasWantedCheck wanted
+    → IsSealed u.header → u.header.kind ≡ Prepare → Wanted.IsWanted wanted u ↔ IsWantedUnit wanted (PrepareUnit (message_of u))
 prepare_wanted u Any fits is kind = (λ _. tt, λ _. tt)
 prepare_wanted u (Op op) fits is kind = (λ wanted. wanted.op, λ same. record { kind = kind; op = same })
 prepare_wanted u (Checksum checksum) fits is kind = check_told u checksum is fits
 prepare_wanted u (Answer client request op) fits is kind = no_answer u client request op Prepare kind (λ same. cc)
 
-reply_wanted : (u : Message) (wanted : Wanted.Wanted) → HasWantedCheck wanted → IsSealed u.header → u.header.kind ≡ Reply → Wanted.IsWanted wanted u ↔ IsWantedUnit wanted (ReplyUnit (message_of u))
+reply_wanted : (u : Message) (wanted : Wanted.Wanted) → HasWantedCheck wanted
+    → IsSealed u.header → u.header.kind ≡ Reply → Wanted.IsWanted wanted u ↔ IsWantedUnit wanted (ReplyUnit (message_of u))
 reply_wanted u Any fits is kind = (λ _. tt, λ _. tt)
 reply_wanted u (Op op) fits is kind = no_op u op Reply kind (λ same. cc)
 reply_wanted u (Checksum checksum) fits is kind = check_told u checksum is fits
 reply_wanted u (Answer client request op) fits is kind =
     (λ wanted. (wanted.client, wanted.request, wanted.op), λ same. record { kind = kind; client = same.0; request = same.1; op = same.2 })
 
-header_wanted : (u : Message) (wanted : Wanted.Wanted) → HasWantedCheck wanted → IsSealed u.header → IsInRing u → Wanted.IsWanted wanted u ↔ IsWantedUnit wanted (HeaderUnit (header_of u.header))
+header_wanted : (u : Message) (wanted : Wanted.Wanted) → HasWantedCheck wanted
+    → IsSealed u.header → IsInRing u → Wanted.IsWanted wanted u ↔ IsWantedUnit wanted (HeaderUnit (header_of u.header))
 header_wanted u Any fits is ring = (λ _. tt, λ _. tt)
 header_wanted u (Op op) fits is (inl reserved) =
     (λ wanted. absurd (let both : Reserved ≡ Prepare = sym reserved.0 ∙ wanted.kind in cc), λ same. absurd (omega (arith, reserved.1, same.0)))
@@ -132,7 +136,8 @@ header_wanted u (Checksum checksum) fits is ring = check_told u checksum is fits
 header_wanted u (Answer client request op) fits is (inl reserved) = no_answer u client request op Reserved reserved.0 (λ same. cc)
 header_wanted u (Answer client request op) fits is (inr prepare) = no_answer u client request op Prepare prepare.0 (λ same. cc)
 
-block_wanted : (u : Message) (wanted : Wanted.Wanted) → HasWantedCheck wanted → IsSealed u.header → IsInGrid u → Wanted.IsWanted wanted u ↔ IsWantedUnit wanted (BlockUnit (block_of u))
+block_wanted : (u : Message) (wanted : Wanted.Wanted)
+    → HasWantedCheck wanted → IsSealed u.header → IsInGrid u → Wanted.IsWanted wanted u ↔ IsWantedUnit wanted (BlockUnit (block_of u))
 block_wanted u Any fits is grid = (λ _. tt, λ _. tt)
 block_wanted u (Op op) fits is (inr block) = no_op u op Block block.0 (λ same. cc)
 block_wanted u (Op op) fits is (inl trailer) = no_op u op Trailer trailer.0 (λ same. cc)
@@ -156,24 +161,29 @@ in_grid layout cluster address u is = elim (valid_belongs layout cluster (place_
 
 pub units_told : UnitsAreTold
 units_told layout cluster (CopyPlace n) kind wanted u x fits is means = absurd (cc)
-units_told layout cluster (HeaderPlace s) kind wanted u x fits is means =
-    let ring = in_ring layout cluster s u is in
-    subst (λ (y : AnyUnit). IsTold kind wanted u y) (same_Some _ _ means) (record { of_kind = header_kind u kind ring; is_wanted = header_wanted u wanted fits is.sealed ring })
+units_told layout cluster (HeaderPlace s) kind wanted u x fits is means = let ring = in_ring layout cluster s u is in
+    subst (λ (y : AnyUnit). IsTold kind wanted u y)
+    (same_Some _ _ means) (record { of_kind = header_kind u kind ring; is_wanted = header_wanted u wanted fits is.sealed ring })
 units_told layout cluster (PreparePlace s) kind wanted u x fits is means =
     let prepare = (valid_belongs layout cluster (place_in WalPrepares s) u is).belongs.kind in
-    subst (λ (y : AnyUnit). IsTold kind wanted u y) (same_Some _ _ means) (record { of_kind = prepare_kind u kind prepare; is_wanted = prepare_wanted u wanted fits is.sealed prepare })
+    subst (λ (y : AnyUnit). IsTold kind wanted u y)
+    (same_Some _ _ means) (record { of_kind = prepare_kind u kind prepare; is_wanted = prepare_wanted u wanted fits is.sealed prepare })
 units_told layout cluster (ReplyPlace k) kind wanted u x fits is means =
     let reply = (valid_belongs layout cluster (place_in ClientReplies k) u is).belongs.kind in
-    subst (λ (y : AnyUnit). IsTold kind wanted u y) (same_Some _ _ means) (record { of_kind = reply_kind u kind reply; is_wanted = reply_wanted u wanted fits is.sealed reply })
-units_told layout cluster (BlockPlace a) kind wanted u x fits is means =
-    let grid = in_grid layout cluster a u is in
-    subst (λ (y : AnyUnit). IsTold kind wanted u y) (same_Some _ _ means) (record { of_kind = block_kind u kind grid; is_wanted = block_wanted u wanted fits is.sealed grid })
+    subst (λ (y : AnyUnit). IsTold kind wanted u y)
+    (same_Some _ _ means) (record { of_kind = reply_kind u kind reply; is_wanted = reply_wanted u wanted fits is.sealed reply })
+units_told layout cluster (BlockPlace a) kind wanted u x fits is means = let grid = in_grid layout cluster a u is in
+    subst (λ (y : AnyUnit). IsTold kind wanted u y)
+    (same_Some _ _ means) (record { of_kind = block_kind u kind grid; is_wanted = block_wanted u wanted fits is.sealed grid })
 
-module _ (layout : Layout) (cluster : ℕ) (image : Image) (place : Units.Place) (kind : Kind) (wanted : Wanted.Wanted) (whole : IsImage image) (fits : HasWantedCheck wanted) (none : (u : Message) → Shown.unit_at layout cluster image (place_of place) ≡ Some u → u.header.kind ≡ kind → ¬ Wanted.IsWanted wanted u) where
-  none_by : (o : Option Message) (x : AnyUnit) → Shown.unit_at layout cluster image (place_of place) ≡ o → message_unit place o ≡ Some x → IsOfKind kind x → ¬ IsWantedUnit wanted x
+module _ (layout : Layout) (cluster : ℕ) (image : Image) (place : Units.Place) (kind : Kind) (wanted : Wanted.Wanted)
+    (whole : IsImage image) (fits : HasWantedCheck wanted) (none : (u : Message) → Shown.unit_at layout cluster image (place_of
+    place) ≡ Some u → u.header.kind ≡ kind → ¬ Wanted.IsWanted wanted u) where
+  none_by : (o : Option Message) (x : AnyUnit)
+      → Shown.unit_at layout cluster image (place_of place) ≡ o → message_unit place o ≡ Some x → IsOfKind kind x → ¬ IsWantedUnit wanted x
   none_by None x shown means of_kind is_wanted = absurd (cc)
-  none_by (Some u) x shown means of_kind is_wanted =
-      let told = units_told layout cluster place kind wanted u x fits (shown_is_unit layout cluster image (place_of place) u whole shown) means in
+  none_by (Some u) x shown means of_kind is_wanted = let told =
+      units_told layout cluster place kind wanted u x fits (shown_is_unit layout cluster image (place_of place) u whole shown) means in
       none u shown (told.of_kind.1 of_kind) (told.is_wanted.1 is_wanted)
 
 copy_of_none : (kind : Kind) (o : Option Content) (x : AnyUnit) → copy_unit o ≡ Some x → IsOfKind kind x → ⊥
@@ -188,8 +198,13 @@ copy_of_none kind (Some c) x is of_kind = no_kind kind c (rw (sym (same_Some _ _
     no_kind Trailer c is = is
 
 pub none_wanted : NoneIsWanted
-none_wanted layout cluster image (CopyPlace n) kind wanted whole fits none x is of_kind is_wanted = copy_of_none kind (content_at image n) x is of_kind
-none_wanted layout cluster image (HeaderPlace s) kind wanted whole fits none x is of_kind is_wanted = none_by layout cluster image (HeaderPlace s) kind wanted whole fits none _ x refl is of_kind is_wanted
-none_wanted layout cluster image (PreparePlace s) kind wanted whole fits none x is of_kind is_wanted = none_by layout cluster image (PreparePlace s) kind wanted whole fits none _ x refl is of_kind is_wanted
-none_wanted layout cluster image (ReplyPlace k) kind wanted whole fits none x is of_kind is_wanted = none_by layout cluster image (ReplyPlace k) kind wanted whole fits none _ x refl is of_kind is_wanted
-none_wanted layout cluster image (BlockPlace a) kind wanted whole fits none x is of_kind is_wanted = none_by layout cluster image (BlockPlace a) kind wanted whole fits none _ x refl is of_kind is_wanted
+none_wanted layout cluster image (CopyPlace n) kind wanted whole fits none x is of_kind is_wanted =
+    copy_of_none kind (content_at image n) x is of_kind
+none_wanted layout cluster image (HeaderPlace s) kind wanted whole fits none x is of_kind is_wanted =
+    none_by layout cluster image (HeaderPlace s) kind wanted whole fits none _ x refl is of_kind is_wanted
+none_wanted layout cluster image (PreparePlace s) kind wanted whole fits none x is of_kind is_wanted =
+    none_by layout cluster image (PreparePlace s) kind wanted whole fits none _ x refl is of_kind is_wanted
+none_wanted layout cluster image (ReplyPlace k) kind wanted whole fits none x is of_kind is_wanted =
+    none_by layout cluster image (ReplyPlace k) kind wanted whole fits none _ x refl is of_kind is_wanted
+none_wanted layout cluster image (BlockPlace a) kind wanted whole fits none x is of_kind is_wanted =
+    none_by layout cluster image (BlockPlace a) kind wanted whole fits none _ x refl is of_kind is_wanted

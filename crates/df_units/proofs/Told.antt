@@ -13,21 +13,18 @@ block_rules u rules kind = subst (λ (k : Kind). ObeysKind k u.header) kind rule
 
 pub trailers_tell : TrailersTell
 trailers_tell layout cluster address u is = elim (valid_belongs layout cluster (place_in Grid address) u is).belongs.kind [
-  | inl block ↦
-      let rules = block_rules u is.sealed.rules.kind block in (
-        (λ trailer. absurd (let both : Block ≡ Trailer = sym block ∙ trailer in cc), λ some. absurd (omega (arith, rules.checkpoint, some))),
-        (λ trailer. absurd (let both : Block ≡ Trailer = sym block ∙ trailer in cc), λ none. absurd (omega (arith, rules.block_kind, none))),
-      )
-  | inr trailer ↦
-      let rules = trailer_rules u is.sealed.rules.kind trailer in (
-        (λ _. omega (arith, rules.checkpoint.0), λ some. trailer),
-        (λ _. rules.block_kind, λ none. trailer),
-      )
+  | inl block ↦ let rules = block_rules u is.sealed.rules.kind block in (
+    (λ trailer. absurd (let both : Block ≡ Trailer = sym block ∙ trailer in cc), λ some. absurd (omega (arith, rules.checkpoint, some))),
+    (λ trailer. absurd (let both : Block ≡ Trailer = sym block ∙ trailer in cc), λ none. absurd (omega (arith, rules.block_kind, none))),
+  )
+  | inr trailer ↦ let rules = trailer_rules u is.sealed.rules.kind trailer in (
+    (λ _. omega (arith, rules.checkpoint.0), λ some. trailer),
+    (λ _. rules.block_kind, λ none. trailer),
+  )
 ]
 
 pub sector_puts : SectorPuts
-sector_puts sector headers (HeaderPlace s) y is =
-    let put = put_is sector s headers (s / 16 == sector) (slice_get headers (s % 16)) y is in
+sector_puts sector headers (HeaderPlace s) y is = let put = put_is sector s headers (s / 16 == sector) (slice_get headers (s % 16)) y is in
     (s, put.1.0, refl, sym put.1.2, eqb-true (s / 16) sector put.0, put.1.1)
 sector_puts sector headers (CopyPlace n) y is = absurd (cc)
 sector_puts sector headers (PreparePlace n) y is = absurd (cc)
@@ -41,17 +38,13 @@ reserved_rules : (h : Header) → ObeysKind h.kind h → h.kind ≡ Reserved →
 reserved_rules h rules kind = subst (λ (k : Kind). ObeysKind k h) kind rules
 
 pub reserved_put : ReservedArePut
-reserved_put sector headers sixteen reserved place y is =
-    let put = sector_puts sector headers place y is in
-    let h : Header = put.1 in
-    let obeys = (sixteen.each (put.0 % 16) h put.5).rules in
-    let kind = reserved (put.0 % 16) h put.5 in
+reserved_put sector headers sixteen reserved place y is = let put = sector_puts sector headers place y is in let h : Header = put.1 in
+    let obeys = (sixteen.each (put.0 % 16) h put.5).rules in let kind = reserved (put.0 % 16) h put.5 in
     let rules = reserved_rules h obeys.kind kind in
     (put.0, header_of h, put.2, put.3, record { op = rules.op; checkpoint = rules.checkpoint; boot = unbooted h (reserved_version h obeys.version kind) })
 
 pub table_put : TableIsPut
-table_put sector headers table are place y is =
-    let put = sector_puts sector headers place y is in
+table_put sector headers table are place y is = let put = sector_puts sector headers place y is in
     let slot : 16 * sector + put.0 % 16 ≡ put.0 = omega (arith, put.4) in
     let same : put.1 ≡ table put.0 = are (put.0 % 16) put.1 put.5 ∙ ap table slot in
     (put.0, put.2, put.3 ∙ ap (λ (h : Header). HeaderUnit (header_of h)) same)

@@ -1,9 +1,8 @@
 -- The superblock of an upgrade passes its tests, and says what the machine records of the state that was found.
 use Rattle.std.proofs.{Common.{◌≡◌, inl, inr, ℕ, ◌+◌, ◌<◌, ◌^◌, List, [], None, false, true, refl, sym, ◌∙◌, ap, arith}, lemmas.List.Elements.{All-drop}}
 use Rattle.df_format.{specs.{Copies.{content_with}, Spelling.{no_checksum}, SuperRules.{IsFirstSuper, IsUsable, fault_of}, declared.superblock.SuperFields.{SuperFields}}, proofs.Laws.{faults}}
-use Rattle.df_sessions.specs.Table.{IsSessionTable}
+use Rattle.{df_sessions.specs.Table.{IsSessionTable}, df_units.specs.Meaning.{content_of, number_of}}
 use Rattle.df_theory.specs.{Shape.{Shape}, Units.{Content, Parts, Units}, Upgrades.{as_version}, View.{View}}
-use Rattle.df_units.specs.Meaning.{content_of, number_of}
 use Rattle.df_model.specs.Making as making
 use Rattle.df_model.specs.{Making.{boot_content, named_sums}, Memory.{Memory, memory_of}, Work.{opened}}
 use Rattle.df_damage.{specs.{Below.{IsState, MayRecord, State, memory}, Surveying.{state_found}, Types.{Surveyed}}, proofs.Laws.{found_awaits, found_ends, found_staging, numbers_as, recorded_content, recorded_is_super}}
@@ -15,7 +14,8 @@ use Rattle.df_upgrade.specs.{Base.{base_fields}, Old.{IsOldSurvey}, Upgrading.{s
 abbrev in_second : State → State
 in_second s = record s { file = second s.file; fields = record s.fields { version = 2; head_checksum = s.fields.op_checksum }; root = [] }
 
-module _ (y : Surveyed) (old : IsOldSurvey y) (usable : IsUsable y.scanned.copies.found.content) (table : IsSessionTable y.scanned.sessions) where
+module _ (y : Surveyed)
+    (old : IsOldSurvey y) (usable : IsUsable y.scanned.copies.found.content) (table : IsSessionTable y.scanned.sessions) where
   abbrev f : SuperFields
   f = y.scanned.copies.found.content
 
@@ -79,17 +79,18 @@ module _ (y : Surveyed) (old : IsOldSurvey y) (usable : IsUsable y.scanned.copie
 -- ---- in the words of the machine
 
 -- what is named doesn't depend on the version
-names_same : (sh : Shape) (spell : Parts → List ℕ) (image : Units) (v : View) → named_sums (memory_of sh spell (opened sh image v)) ≡ named_sums (memory_of sh spell (opened sh image (as_version 2 v)))
+names_same : (sh : Shape) (spell : Parts → List ℕ) (image : Units) (v : View)
+    → named_sums (memory_of sh spell (opened sh image v)) ≡ named_sums (memory_of sh spell (opened sh image (as_version 2 v)))
 unfolding named_sums
 names_same sh spell image v = refl
 
 -- it is the content of a boot update of the view as version 2 has it, with what that leaves empty
-pub base_content : (s : State) (sh : Shape) (spell : Parts → List ℕ) (image : Units) (v : View) → v.checkpoint.content.boot ≡ 0 → memory s ≡ memory_of sh spell (opened sh image v)
-    → record (content_of (content_with (base_fields s))) { rest = v.checkpoint.content.rest } ≡ boot_content (memory_of sh spell (opened sh image (as_version 2 v))) (number_of (content_with (base_fields s)).checksum)
-base_content s sh spell image v boot stands =
-    let sum : ℕ = number_of (content_with (base_fields s)).checksum in
-    let c : Content = v.checkpoint.content in
-    let m : Memory = memory_of sh spell (opened sh image v) in
+pub base_content : (s : State) (sh : Shape) (spell : Parts → List ℕ) (image : Units) (v : View)
+    → v.checkpoint.content.boot ≡ 0 → memory s ≡ memory_of sh spell (opened sh image v)
+    → record (content_of (content_with (base_fields s))) { rest = v.checkpoint.content.rest }
+    ≡ boot_content (memory_of sh spell (opened sh image (as_version 2 v))) (number_of (content_with (base_fields s)).checksum)
+base_content s sh spell image v boot stands = let sum : ℕ = number_of (content_with (base_fields s)).checksum in
+    let c : Content = v.checkpoint.content in let m : Memory = memory_of sh spell (opened sh image v) in
     let one : 1 ≡ c.boot + 1 = omega (arith, boot) in
     let recorded_is = recorded_content s (record s.fields { version = 2; boot = 1 }) refl in
     ap (λ (e : Content). record e { rest = c.rest }) recorded_is

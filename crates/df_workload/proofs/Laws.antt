@@ -15,7 +15,8 @@ may_go_on Ending o s is = absurd (cc)
 
 -- ---- joined
 
-pub follows_more : (s mid end : State) (cs ds : List Command) (xs ys : List Answer) → Follows s cs xs mid → Follows mid ds ys end → Follows s (cs ++ ds) (xs ++ ys) end
+pub follows_more : (s mid end : State) (cs ds : List Command) (xs ys : List Answer)
+    → Follows s cs xs mid → Follows mid ds ys end → Follows s (cs ++ ds) (xs ++ ys) end
 follows_more s mid end [] ds [] ys one two = subst (λ (t : State). Follows t ds ys end) one two
 follows_more s mid end [] ds (x ∷ xs) ys one two = absurd one
 follows_more s mid end (c ∷ cs) ds [] ys one two = absurd one

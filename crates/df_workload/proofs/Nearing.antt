@@ -37,8 +37,7 @@ module _ (n : ℕ) (s : State) (w : IsWithinRound (n + 1) s) where
 
 -- at the end of a running checkpoint
 finished_within : (s : State) → IsWithinRound 0 s → s.running ≡ true → IsWithinRound 0 (stepped Finished s)
-finished_within s w runs =
-    let set : flag s.running ≡ 1 = ap flag runs in
+finished_within s w runs = let set : flag s.running ≡ 1 = ap flag runs in
     record { number = w.number; some = w.some; four = w.four; million = w.million; first = w.first; last = w.last; counted = omega (arith, w.counted, set); bytes = w.bytes }
 
 -- ---- each point
@@ -56,26 +55,30 @@ as_of : (n : ℕ) (s u t : State) → u.count ≡ s.count → u.round ≡ s.roun
 as_of n s u t count round is = record { sound = is.sound; less = λ some. omega (arith, is.less (omega arith), count, round) }
 
 appending_done : (s : State) → IsWithinRound 9 s → length s.held ≤ 8 → Nearer 9 s (to_replies (append_heard Accepted s))
-appending_done s w few = as_of 9 s (append_heard Accepted s) _ refl refl (nearer 8 (append_heard Accepted s) _ (comes_replies (append_heard Accepted s) (within_appended 8 s w) few))
+appending_done s w few = as_of 9 s (append_heard Accepted s)
+    _ refl refl (nearer 8 (append_heard Accepted s) _ (comes_replies (append_heard Accepted s) (within_appended 8 s w) few))
 
 appending : (o : Outcome) (s : State) → IsWithinRound 9 s → length s.held ≤ 8 → Nearer 9 s (to_replies (append_heard o s))
 appending Refused s w few = as_of 9 s (refused s) _ refl refl (nearer 8 (refused s) _ (comes_replies (refused s) (within_refused 8 s w) few))
 appending o s w few = appending_done s w few
 
-replying_done : (op : ℕ) (s : State) → IsWithinRound (5 + (s.round - op)) s → length s.held ≤ 8 → Nearer (5 + (s.round - op)) s (after_reply op (reply_heard Accepted s))
-replying_done op s w few =
-    let c = comes_reply op (reply_heard Accepted s) (within_replied (4 + (s.round - op)) s (less_to_come (5 + (s.round - op)) (4 + (s.round - op) + 1) s w (omega arith))) few in
+replying_done : (op : ℕ) (s : State)
+    → IsWithinRound (5 + (s.round - op)) s → length s.held ≤ 8 → Nearer (5 + (s.round - op)) s (after_reply op (reply_heard Accepted s))
+replying_done op s w few = let c = comes_reply op (reply_heard Accepted s)
+    (within_replied (4 + (s.round - op)) s (less_to_come (5 + (s.round - op)) (4 + (s.round - op) + 1) s w (omega arith))) few in
     record { sound = c.sound; less = λ some. omega (arith, c.fits) }
 
-replying : (op : ℕ) (o : Outcome) (s : State) → IsWithinRound (5 + (s.round - op)) s → length s.held ≤ 8 → Nearer (5 + (s.round - op)) s (after_reply op (reply_heard o s))
-replying op Refused s w few =
-    let c = comes_reply op (refused s) (within_refused (4 + (s.round - op)) s (less_to_come (5 + (s.round - op)) (4 + (s.round - op) + 1) s w (omega arith))) few in
+replying : (op : ℕ) (o : Outcome) (s : State)
+    → IsWithinRound (5 + (s.round - op)) s → length s.held ≤ 8 → Nearer (5 + (s.round - op)) s (after_reply op (reply_heard o s))
+replying op Refused s w few = let c = comes_reply op (refused s)
+    (within_refused (4 + (s.round - op)) s (less_to_come (5 + (s.round - op)) (4 + (s.round - op) + 1) s w (omega arith))) few in
     record { sound = c.sound; less = λ some. omega (arith, c.fits) }
 replying op o s w few = replying_done op s w few
 
 stepping : (o : Outcome) (s : State) → IsWithinRound 4 s → length s.held ≤ 8 → Nearer 4 s (to_block (stepped o s))
 stepping Refused s w few = as_of 4 s (refused s) _ refl refl (nearer 3 (refused s) _ (comes_block (refused s) (within_refused 3 s w) few))
-stepping Finished s w few = as_of 4 s (stepped Finished s) _ refl refl (nearer 3 (stepped Finished s) _ (comes_block (stepped Finished s) (within_finished 3 s w) few))
+stepping Finished s w few = as_of
+    4 s (stepped Finished s) _ refl refl (nearer 3 (stepped Finished s) _ (comes_block (stepped Finished s) (within_finished 3 s w) few))
 stepping Accepted s w few = nearer 3 s _ (comes_block s (within_same 3 s w) few)
 stepping (Wrote a) s w few = nearer 3 s _ (comes_block s (within_same 3 s w) few)
 
@@ -83,8 +86,10 @@ one_more : (held : List ℕ) (a : ℕ) → length held ≤ 8 → length (held ++
 one_more held a few = omega (arith, length-append held (a ∷ []))
 
 writing : (o : Outcome) (s : State) → IsWithinRound 3 s → length s.held ≤ 8 → Nearer 3 s (to_release (block_heard o s))
-writing Refused s w few = as_of 3 s (refused s) _ refl refl (nearer 2 (refused s) _ (comes_release (refused s) (within_refused 2 s w) (omega arith)))
-writing (Wrote a) s w few = as_of 3 s (block_heard (Wrote a) s) _ refl refl (nearer 2 (block_heard (Wrote a) s) _ (comes_release (block_heard (Wrote a) s) (within_wrote 2 s w a) (one_more s.held a few)))
+writing Refused s w few =
+    as_of 3 s (refused s) _ refl refl (nearer 2 (refused s) _ (comes_release (refused s) (within_refused 2 s w) (omega arith)))
+writing (Wrote a) s w few = as_of 3 s (block_heard (Wrote a) s) _ refl
+    refl (nearer 2 (block_heard (Wrote a) s) _ (comes_release (block_heard (Wrote a) s) (within_wrote 2 s w a) (one_more s.held a few)))
 writing Accepted s w few = nearer 2 s _ (comes_release s (within_same 2 s w) (omega arith))
 writing Finished s w few = nearer 2 s _ (comes_release s (within_same 2 s w) (omega arith))
 
@@ -92,14 +97,17 @@ one_less : (held : List ℕ) → length held ≡ 9 → length (drop 1 held) ≤ 
 one_less held nine = omega (arith, length-drop 1 held)
 
 releasing_done : (s : State) → IsWithinRound 2 s → length s.held ≡ 9 → Nearer 2 s (to_begin (release_heard Accepted s))
-releasing_done s w nine = as_of 2 s (release_heard Accepted s) _ refl refl (nearer 1 (release_heard Accepted s) _ (comes_begin (release_heard Accepted s) (within_released 1 s w) (one_less s.held nine)))
+releasing_done s w nine = as_of 2 s (release_heard Accepted s) _ refl
+    refl (nearer 1 (release_heard Accepted s) _ (comes_begin (release_heard Accepted s) (within_released 1 s w) (one_less s.held nine)))
 
 releasing : (o : Outcome) (s : State) → IsWithinRound 2 s → length s.held ≡ 9 → Nearer 2 s (to_begin (release_heard o s))
-releasing Refused s w nine = as_of 2 s (refused (without_first s)) _ refl refl (nearer 1 (refused (without_first s)) _ (comes_begin (refused (without_first s)) (within_kept 1 s w) (one_less s.held nine)))
+releasing Refused s w nine = as_of 2 s (refused (without_first s)) _
+    refl refl (nearer 1 (refused (without_first s)) _ (comes_begin (refused (without_first s)) (within_kept 1 s w) (one_less s.held nine)))
 releasing o s w nine = releasing_done s w nine
 
 beginning_done : (s : State) → IsWithinRound 1 s → length s.held ≤ 8 → Nearer 1 s (to_next (begin_heard Accepted s))
-beginning_done s w few = as_of 1 s (begin_heard Accepted s) _ refl refl (nearer 0 (begin_heard Accepted s) _ (comes_next (begin_heard Accepted s) (within_begun 0 s w) few))
+beginning_done s w few = as_of 1 s (begin_heard Accepted s)
+    _ refl refl (nearer 0 (begin_heard Accepted s) _ (comes_next (begin_heard Accepted s) (within_begun 0 s w) few))
 
 beginning : (o : Outcome) (s : State) → IsWithinRound 1 s → length s.held ≤ 8 → Nearer 1 s (to_next (begin_heard o s))
 beginning Refused s w few = as_of 1 s (refused s) _ refl refl (nearer 0 (refused s) _ (comes_next (refused s) (within_refused 0 s w) few))
@@ -114,7 +122,8 @@ sound_ending t p w over few = record {
   point = rw p (over, few);
 }
 
-ending : (o : Outcome) (s : State) → s.point ≡ Ending → IsWithinRound 0 s → s.round ≡ s.count → length s.held ≤ 8 → s.running ≡ true → (o ≡ Refused → ⊥) → Nearer 0 s (stepped o s)
+ending : (o : Outcome) (s : State) → s.point ≡ Ending
+    → IsWithinRound 0 s → s.round ≡ s.count → length s.held ≤ 8 → s.running ≡ true → (o ≡ Refused → ⊥) → Nearer 0 s (stepped o s)
 ending Refused s p w over few runs done = absurd (done refl)
 ending Finished s p w over few runs done = record {
   sound = sound_ending (stepped Finished s) p (finished_within s w runs) over few;
@@ -123,7 +132,8 @@ ending Finished s p w over few runs done = record {
 ending Accepted s p w over few runs done = record { sound = sound_ending s p w over few; less = λ some. absurd (nothing_left s over some) }
 ending (Wrote a) s p w over few runs done = record { sound = sound_ending s p w over few; less = λ some. absurd (nothing_left s over some) }
 
-pub nearer_at : (p : Point) (o : Outcome) (s : State) → s.point ≡ p → IsWithinRound (left_at s.round p) s → HasPoint p s → MayBeTold p o s → Nearer (left_at s.round p) s (told_at p o s)
+pub nearer_at : (p : Point) (o : Outcome) (s : State)
+    → s.point ≡ p → IsWithinRound (left_at s.round p) s → HasPoint p s → MayBeTold p o s → Nearer (left_at s.round p) s (told_at p o s)
 nearer_at Appending o s is w has may = appending o s w has
 nearer_at (Replying op) o s is w has may = replying op o s w has.1
 nearer_at Stepping o s is w has may = stepping o s w has

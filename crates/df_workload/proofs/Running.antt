@@ -33,7 +33,8 @@ reply_same op s = either (nat_lt op s.round) (at (Replying (op + 1)) s) (to_step
 -- ---- an answer
 
 -- neither an append, a reply, a block nor a release
-others_same : (o : Outcome) (s : State) → ((append_heard o s).running ≡ s.running) × ((reply_heard o s).running ≡ s.running) × ((block_heard o s).running ≡ s.running) × ((release_heard o s).running ≡ s.running)
+others_same : (o : Outcome) (s : State) → ((append_heard o s).running ≡ s.running)
+    × ((reply_heard o s).running ≡ s.running) × ((block_heard o s).running ≡ s.running) × ((release_heard o s).running ≡ s.running)
 others_same Refused s = (refl, refl, refl, refl)
 others_same o s = (refl, refl, refl, refl)
 
@@ -53,10 +54,16 @@ asks_end true c is = cc
 asks_end false c is = absurd (cc)
 
 pub runs_so : (p : Point) (o : Outcome) (s : State) (c : Command) → asks_at p s ≡ Some c → (told_at p o s).running ≡ runs_after c o s.running
-runs_so Appending o s c is = subst (λ (d : Command). (told_at Appending o s).running ≡ runs_after d o s.running) (some_is _ c is) (replies_same (append_heard o s) ∙ (others_same o s).0)
-runs_so (Replying op) o s c is = subst (λ (d : Command). (told_at (Replying op) o s).running ≡ runs_after d o s.running) (some_is _ c is) (reply_same op (reply_heard o s) ∙ (others_same o s).1)
-runs_so Stepping o s c is = subst (λ (d : Command). (told_at Stepping o s).running ≡ runs_after d o s.running) (some_is _ c is) (block_same (stepped o s) ∙ stepped_so o s)
-runs_so Writing o s c is = subst (λ (d : Command). (told_at Writing o s).running ≡ runs_after d o s.running) (some_is _ c is) (release_same (block_heard o s) ∙ (others_same o s).2)
-runs_so Releasing o s c is = subst (λ (d : Command). (told_at Releasing o s).running ≡ runs_after d o s.running) (some_is _ c is) (begin_same (release_heard o s) ∙ (others_same o s).3)
-runs_so Beginning o s c is = subst (λ (d : Command). (told_at Beginning o s).running ≡ runs_after d o s.running) (some_is _ c is) (next_same (begin_heard o s) ∙ begun_so (number_body s.round) o s)
+runs_so Appending o s c is = subst (λ (d : Command).
+    (told_at Appending o s).running ≡ runs_after d o s.running) (some_is _ c is) (replies_same (append_heard o s) ∙ (others_same o s).0)
+runs_so (Replying op) o s c is = subst (λ (d : Command).
+    (told_at (Replying op) o s).running ≡ runs_after d o s.running) (some_is _ c is) (reply_same op (reply_heard o s) ∙ (others_same o s).1)
+runs_so Stepping o s c is = subst (λ (d : Command).
+    (told_at Stepping o s).running ≡ runs_after d o s.running) (some_is _ c is) (block_same (stepped o s) ∙ stepped_so o s)
+runs_so Writing o s c is = subst (λ (d : Command).
+    (told_at Writing o s).running ≡ runs_after d o s.running) (some_is _ c is) (release_same (block_heard o s) ∙ (others_same o s).2)
+runs_so Releasing o s c is = subst (λ (d : Command).
+    (told_at Releasing o s).running ≡ runs_after d o s.running) (some_is _ c is) (begin_same (release_heard o s) ∙ (others_same o s).3)
+runs_so Beginning o s c is = subst (λ (d : Command). (told_at Beginning o s).running
+    ≡ runs_after d o s.running) (some_is _ c is) (next_same (begin_heard o s) ∙ begun_so (number_body s.round) o s)
 runs_so Ending o s c is = rw (asks_end s.running c is) at (stepped_so o s)

@@ -1,6 +1,5 @@
 -- The draws of seed 42, computed from the definitions.
-use Rattle.std.proofs.Common.{◌≡◌, [], ◌∷◌, refl, ◌+◌}
-use Rattle.df_workload.specs.Draw.{body_length, first_number, next_number}
+use Rattle.{std.proofs.Common.{◌≡◌, [], ◌∷◌, refl, ◌+◌}, df_workload.specs.Draw.{body_length, first_number, next_number}}
 
 first_draw : next_number (first_number 42) ≡ 1250496027
 first_draw = refl

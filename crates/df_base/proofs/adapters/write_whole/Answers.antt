@@ -1,6 +1,5 @@
 -- One more part of the piece.
-use Rattle.std.proofs.Common.{rules}
-use Rattle.df_base.proofs.Pieces.{part_more}
+use Rattle.{std.proofs.Common.{rules}, df_base.proofs.Pieces.{part_more}}
 use Rattle.df_base.proofs.adapters.write_whole.Goals as goal
 
 pub loop-done-preserved : goal.loop-done-preserved

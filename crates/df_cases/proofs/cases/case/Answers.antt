@@ -1,6 +1,5 @@
 -- Two checksums that aren't one have two numbers.
-use Rattle.std.{proofs.Common.{sym, ◌∙◌}, specs.Str.{bytes_eq}}
-use Rattle.df_cases.proofs.Decides.{other_is_lost}
+use Rattle.{std.{proofs.Common.{sym, ◌∙◌}, specs.Str.{bytes_eq}}, df_cases.proofs.Decides.{other_is_lost}}
 use Rattle.df_cases.proofs.cases.case.Goals as goal
 
 pub returns-in-Now-default : goal.returns-in-Now-default

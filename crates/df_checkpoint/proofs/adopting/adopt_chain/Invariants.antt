@@ -1,7 +1,5 @@
 -- The first blocks of the chain are adopted.
-use Rattle.std.proofs.Common.{◌≡◌, ◌-◌, drop, length}
-use Rattle.df_grid.specs.Grid.{with_blocks}
-use Rattle.df_checkpoint.specs.Adopting.{chained}
+use Rattle.{std.proofs.Common.{◌≡◌, ◌-◌, drop, length}, df_grid.specs.Grid.{with_blocks}, df_checkpoint.specs.Adopting.{chained}}
 use Rattle.df_checkpoint.proofs.adopting.adopt_chain.Given as goal
 
 abbrev pub invariant-loop-done : goal.invariant-loop-done

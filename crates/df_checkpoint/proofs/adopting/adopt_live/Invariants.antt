@@ -1,7 +1,5 @@
 -- The blocks below the address are adopted.
-use Rattle.std.proofs.Common.{◌≡◌, ◌<◌}
-use Rattle.df_trailer.specs.Reading.{kept_at, referenced_below}
-use Rattle.df_grid.specs.Grid.{with_blocks}
+use Rattle.{std.proofs.Common.{◌≡◌, ◌<◌}, df_trailer.specs.Reading.{kept_at, referenced_below}, df_grid.specs.Grid.{with_blocks}}
 use Rattle.df_checkpoint.specs.Adopting.{blocks_to}
 use Rattle.df_checkpoint.proofs.adopting.adopt_live.Given as goal
 

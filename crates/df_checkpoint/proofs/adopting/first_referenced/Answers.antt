@@ -1,6 +1,5 @@
 -- The address of each link is one of the chain, so it has a bit.
-use Rattle.std.proofs.Common.{arith, [], get_or}
-use Rattle.df_checkpoint.proofs.Referenced.{link_among}
+use Rattle.{std.proofs.Common.{arith, [], get_or}, df_checkpoint.proofs.Referenced.{link_among}}
 use Rattle.df_checkpoint.proofs.adopting.first_referenced.Goals as goal
 
 pub refers-requires : goal.refers-requires

@@ -1,6 +1,5 @@
 -- Of the links so far it is the least one that is referenced.
-use Rattle.std.proofs.Common.{take}
-use Rattle.df_checkpoint.specs.Adopting.{FirstAnswer}
+use Rattle.{std.proofs.Common.{take}, df_checkpoint.specs.Adopting.{FirstAnswer}}
 use Rattle.df_checkpoint.proofs.adopting.first_referenced.Given as goal
 
 abbrev pub invariant-loop-link : goal.invariant-loop-link

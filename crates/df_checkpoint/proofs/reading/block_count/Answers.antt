@@ -1,6 +1,5 @@
 -- This many pieces hold the text, and the last isn't empty.
-use Rattle.std.proofs.Common.{rules, ◌-◌, arith}
-use Rattle.df_trailer.proofs.Laws.{count_is}
+use Rattle.{std.proofs.Common.{rules, ◌-◌, arith}, df_trailer.proofs.Laws.{count_is}}
 use Rattle.df_checkpoint.proofs.reading.block_count.Goals as goal
 
 pub returns : goal.returns

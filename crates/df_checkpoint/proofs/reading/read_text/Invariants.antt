@@ -1,6 +1,5 @@
 -- The reader has read the text of the blocks so far.
-use Rattle.std.proofs.Common.{◌≡◌, ℕ, ◌*◌, ◌≤◌, ◌^◌, []}
-use Rattle.df_trailer.specs.Reading.{HasRead, bytes_read}
+use Rattle.{std.proofs.Common.{◌≡◌, ℕ, ◌*◌, ◌≤◌, ◌^◌, []}, df_trailer.specs.Reading.{HasRead, bytes_read}}
 use Rattle.df_checkpoint.specs.Texts.{HasReadTo}
 use Rattle.df_checkpoint.proofs.reading.read_text.Given as goal
 

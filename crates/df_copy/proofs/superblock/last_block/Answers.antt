@@ -1,7 +1,5 @@
 -- No block is named by zeros.
-use Rattle.std.proofs.Common.{refl}
-use Rattle.df_format.specs.Spelling.{no_checksum}
-use Rattle.df_copy.proofs.Naming.{none_is_named}
+use Rattle.{std.proofs.Common.{refl}, df_format.specs.Spelling.{no_checksum}, df_copy.proofs.Naming.{none_is_named}}
 use Rattle.df_copy.proofs.superblock.last_block.Goals as goal
 
 pub returns-in-None : goal.returns-in-None

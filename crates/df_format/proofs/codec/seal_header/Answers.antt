@@ -1,5 +1,4 @@
-use Rattle.std.proofs.{Common.{arith, ◌≡◌, ◌∙◌, ap, List, ℕ, drop}, lemmas.List.{take_all, length-drop}}
-use Rattle.df_base.specs.Fields.{check_of}
+use Rattle.{std.proofs.{Common.{arith, ◌≡◌, ◌∙◌, ap, List, ℕ, drop}, lemmas.List.{take_all, length-drop}}, df_base.specs.Fields.{check_of}}
 use Rattle.df_format.{specs.{declared.header.Header.{Header}, Spelling.{sealed, spelling_rest}}, proofs.Makes.{is_sealed}}
 use Rattle.df_format.proofs.codec.seal_header.Goals as goal
 

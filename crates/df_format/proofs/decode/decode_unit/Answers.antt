@@ -12,24 +12,21 @@ unfolding is_blank
 tells_garbled bytes b is other = sym (cond-false (is_blank bytes) Blank Garbled (sym is ∙ other))
 
 pub slice_bounds-eq-end : goal.slice_bounds-eq-end
-slice_bounds-eq-end c = sym (length-take-le 256 c.args.bytes.now (omega (arith, c.requires.size, least_size c.args.layout.now c.args.place.zone)))
+slice_bounds-eq-end c =
+    sym (length-take-le 256 c.args.bytes.now (omega (arith, c.requires.size, least_size c.args.layout.now c.args.place.zone)))
 
 pub returns-in-None : goal.returns-in-None
-returns-in-None c =
-    decoded_none c.args.layout.now c.args.cluster c.args.place c.args.bytes.now Blank c.in-None.ensures
+returns-in-None c = decoded_none c.args.layout.now c.args.cluster c.args.place c.args.bytes.now Blank c.in-None.ensures
     (tells_blank c.args.bytes.now c.eq.result c.eq.ensures c.if-eq.true)
 
 pub returns-in-None-2 : goal.returns-in-None-2
-returns-in-None-2 c =
-    decoded_none c.args.layout.now c.args.cluster c.args.place c.args.bytes.now Garbled c.in-None-2.ensures
+returns-in-None-2 c = decoded_none c.args.layout.now c.args.cluster c.args.place c.args.bytes.now Garbled c.in-None-2.ensures
     (tells_garbled c.args.bytes.now c.eq.result c.eq.ensures c.if-eq.false)
 
 pub returns-in-Some : goal.returns-in-Some
-returns-in-Some c =
-    let same : c.in-Some.own ≡ c.args.place = search rules in
+returns-in-Some c = let same : c.in-Some.own ≡ c.args.place = search rules in
     decoded_here c.args.layout.now c.args.cluster c.args.place c.args.bytes.now c.in-Some.header c.in-Some.own c.in-Some.ensures same
 
 pub returns-in-Some-2 : goal.returns-in-Some-2
-returns-in-Some-2 c =
-    let other : c.in-Some.own ≢ c.args.place = search rules in
+returns-in-Some-2 c = let other : c.in-Some.own ≢ c.args.place = search rules in
     decoded_there c.args.layout.now c.args.cluster c.args.place c.args.bytes.now c.in-Some.header c.in-Some.own c.in-Some.ensures other

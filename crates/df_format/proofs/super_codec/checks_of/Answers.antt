@@ -1,5 +1,4 @@
-use Rattle.std.proofs.Common.{rules}
-use Rattle.df_format.proofs.Checks.{checks_are}
+use Rattle.{std.proofs.Common.{rules}, df_format.proofs.Checks.{checks_are}}
 use Rattle.df_format.proofs.super_codec.checks_of.Goals as goal
 
 pub returns : goal.returns

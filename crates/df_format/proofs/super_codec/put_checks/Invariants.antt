@@ -1,6 +1,5 @@
 -- The checksums before this place stand one after the other.
-use Rattle.std.proofs.Common.{◌≡◌, ◌≤◌, ◌+◌, ◌-◌, ◌*◌, ◌++◌, length, take}
-use Rattle.df_format.specs.Super.{checks_bytes}
+use Rattle.{std.proofs.Common.{◌≡◌, ◌≤◌, ◌+◌, ◌-◌, ◌*◌, ◌++◌, length, take}, df_format.specs.Super.{checks_bytes}}
 use Rattle.df_format.proofs.super_codec.put_checks.Given as goal
 
 abbrev pub invariant-loop-place : goal.invariant-loop-place

@@ -1,6 +1,5 @@
 -- Those before this place have sixteen bytes.
-use Rattle.std.proofs.Common.{◌<◌, ◌≤◌, ◌-◌, ℕ, List, get_or}
-use Rattle.df_format.specs.Spelling.{IsCheck}
+use Rattle.{std.proofs.Common.{◌<◌, ◌≤◌, ◌-◌, ℕ, List, get_or}, df_format.specs.Spelling.{IsCheck}}
 use Rattle.df_format.proofs.super_rules.are_checks.Given as goal
 
 abbrev pub invariant-loop-place : goal.invariant-loop-place

@@ -3,8 +3,7 @@ use Rattle.df_format.proofs.{Failing.{fault_of_fields, fault_of_version}, SuperF
 use Rattle.df_format.proofs.super_rules.test_fields.Goals as goal
 
 pub returns-in_err-test_version-clause-fault : goal.returns-in_err-test_version-clause-fault
-returns-in_err-test_version-clause-fault c =
-    let p = err_from_is_err_and c.from_residual.result c.from_residual.ensures.1 in
+returns-in_err-test_version-clause-fault c = let p = err_from_is_err_and c.from_residual.result c.from_residual.ensures.1 in
     rw (p.1, p.2) (sym (fault_of_version c.args.fields.now _ c.in_err-test_version.ensures))
 
 pub returns-in_err-test_each-clause-fault : goal.returns-in_err-test_each-clause-fault

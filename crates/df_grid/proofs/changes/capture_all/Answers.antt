@@ -16,4 +16,5 @@ pub loop-place-preserved : goal.loop-place-preserved
 loop-place-preserved c = rw (c.set.ensures, c.capturing-entry.ensures) (part_more capturing c.loop-place.place (c.loop-place.place + 1 - 1) c.args.entries.now c.loop-place.entries c.get.result (omega arith) (omega (arith, c.loop-place-test.true, c.len-place-end.ensures)) c.loop-place.invariant c.get.ensures)
 
 pub returns : goal.returns
-returns c = c.loop-place.invariant ∙ part_all capturing c.loop-place.place c.args.entries.now (omega (arith, c.loop-place-test.false, c.len-place-end.ensures))
+returns c = c.loop-place.invariant
+    ∙ part_all capturing c.loop-place.place c.args.entries.now (omega (arith, c.loop-place-test.false, c.len-place-end.ensures))

@@ -1,6 +1,5 @@
 -- The first entries are captured.
-use Rattle.std.proofs.Common.{◌≡◌, ◌++◌, map, take, drop}
-use Rattle.df_grid.specs.Table.{capturing}
+use Rattle.{std.proofs.Common.{◌≡◌, ◌++◌, map, take, drop}, df_grid.specs.Table.{capturing}}
 use Rattle.df_grid.proofs.changes.capture_all.Given as goal
 
 abbrev pub invariant-loop-place : goal.invariant-loop-place

@@ -1,7 +1,6 @@
 -- The client's session decides, or its first request and a place.
 use Rattle.std.proofs.{Common.{◌<◌, ◌≤◌, length, sym, ◌∙◌, arith}, lemmas.Bool.{eqb-true, ltb-true, lt-ltb, leb-true, le-leb}}
-use Rattle.df_sessions.proofs.Laws.{no_gap}
-use Rattle.df_group.proofs.Asks.{asks_known, asks_new}
+use Rattle.{df_sessions.proofs.Laws.{no_gap}, df_group.proofs.Asks.{asks_known, asks_new}}
 use Rattle.df_group.proofs.groups.may_ask.Goals as goal
 
 pub returns-then-saturating_sub-eq1 : goal.returns-then-saturating_sub-eq1
@@ -26,7 +25,8 @@ returns-else-saturating_sub-eq1 c =
     )
 
 pub returns-in-None-get : goal.returns-in-None-get
-returns-in-None-get c = absurd (no_gap c.args.header.now.client c.args.sessions.now.sessions c.in-Some.place (sym c.place_of.ensures ∙ c.in-Some.is) (sym c.get.ensures ∙ c.in-None-get.is))
+returns-in-None-get c = absurd (no_gap c.args.header.now.client
+    c.args.sessions.now.sessions c.in-Some.place (sym c.place_of.ensures ∙ c.in-Some.is) (sym c.get.ensures ∙ c.in-None-get.is))
 
 pub returns-then-header-eq1 : goal.returns-then-header-eq1
 returns-then-header-eq1 c =

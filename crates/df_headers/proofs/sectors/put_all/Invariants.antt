@@ -1,6 +1,5 @@
 -- The headers so far stand one after the other.
-use Rattle.std.proofs.Common.{◌≡◌, ◌≤◌, ◌*◌, ◌-◌, length, take}
-use Rattle.df_format.specs.UnitLaws.{headers_bytes}
+use Rattle.{std.proofs.Common.{◌≡◌, ◌≤◌, ◌*◌, ◌-◌, length, take}, df_format.specs.UnitLaws.{headers_bytes}}
 use Rattle.df_headers.proofs.sectors.put_all.Given as goal
 
 abbrev pub invariant-loop-i : goal.invariant-loop-i

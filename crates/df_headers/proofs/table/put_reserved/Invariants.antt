@@ -1,6 +1,5 @@
 -- The slots before this one have reserved headers.
-use Rattle.std.{proofs.Common.{◌≡◌, ◌≤◌, ◌<◌, ◌-◌, ℕ, length, Some}, specs.List.{slice_get}}
-use Rattle.df_units.specs.Sample.{reserved_header}
+use Rattle.{std.{proofs.Common.{◌≡◌, ◌≤◌, ◌<◌, ◌-◌, ℕ, length, Some}, specs.List.{slice_get}}, df_units.specs.Sample.{reserved_header}}
 use Rattle.df_headers.proofs.table.put_reserved.Given as goal
 
 abbrev pub invariant-loop-slot : goal.invariant-loop-slot

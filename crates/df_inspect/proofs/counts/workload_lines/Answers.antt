@@ -1,12 +1,9 @@
 -- A line for each number.
-use Rattle.std.proofs.Common.{codes}
-use Rattle.df_inspect.proofs.Rows.{from_none, row_behind, row_last}
+use Rattle.{std.proofs.Common.{codes}, df_inspect.proofs.Rows.{from_none, row_behind, row_last}}
 use Rattle.df_inspect.proofs.counts.workload_lines.Goals as goal
 
 pub returns : goal.returns
-returns c =
-    from_none _ _ _ c.new-lines.ensures
-    (row_behind _ _ _ (codes "appended") _ _ _ c.put_row.ensures.put c.from.ensures
+returns c = from_none _ _ _ c.new-lines.ensures (row_behind _ _ _ (codes "appended") _ _ _ c.put_row.ensures.put c.from.ensures
     (row_behind _ _ _ (codes "replied") _ _ _ c.put_row-2.ensures.put c.from-2.ensures
     (row_behind _ _ _ (codes "wrote") _ _ _ c.put_row-3.ensures.put c.from-3.ensures
     (row_behind _ _ _ (codes "released") _ _ _ c.put_row-4.ensures.put c.from-4.ensures

@@ -11,6 +11,7 @@ returns-in_err-print_finding-clause-prints g c = each_failed (λ place f. findin
 
 pub loop-finding-preserved : goal.loop-finding-preserved
 loop-finding-preserved g c = record {
-  printed = each_printed (λ place f. finding_text f) _ _ _ c.loop-finding.finding-index c.args.findings.now _ (omega arith) c.loop-finding.invariant.printed c.in_ok-print_finding.ensures.prints.whole;
+  printed = each_printed (λ place f. finding_text f) _ _ _ c.loop-finding.finding-index
+      c.args.findings.now _ (omega arith) c.loop-finding.invariant.printed c.in_ok-print_finding.ensures.prints.whole;
   quiet = c.in_ok-print_finding.ensures.cause.same ∙ c.loop-finding.invariant.quiet;
 }

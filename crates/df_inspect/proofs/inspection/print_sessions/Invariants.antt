@@ -1,7 +1,5 @@
 -- The items gone over are printed, and nothing failed.
-use Rattle.std.proofs.Common.{take, ◌≡◌}
-use Rattle.df_base.specs.Streams.{Appends}
-use Rattle.df_inspect.specs.Reports.{each_text, session_text}
+use Rattle.{std.proofs.Common.{take, ◌≡◌}, df_base.specs.Streams.{Appends}, df_inspect.specs.Reports.{each_text, session_text}}
 use Rattle.df_inspect.proofs.inspection.print_sessions.Given as goal
 
 abbrev pub invariant-loop-place : goal.invariant-loop-place

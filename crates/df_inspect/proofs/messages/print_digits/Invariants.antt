@@ -1,7 +1,5 @@
 -- The digits of the bytes gone over are printed, and nothing failed.
-use Rattle.std.proofs.Common.{length, take, ◌-◌, ◌≡◌, ◌≤◌}
-use Rattle.hex.specs.Hex.{encode_lower}
-use Rattle.df_base.specs.Streams.{Appends}
+use Rattle.{std.proofs.Common.{length, take, ◌-◌, ◌≡◌, ◌≤◌}, hex.specs.Hex.{encode_lower}, df_base.specs.Streams.{Appends}}
 use Rattle.df_inspect.proofs.messages.print_digits.Given as goal
 
 abbrev pub invariant-loop-done : goal.invariant-loop-done

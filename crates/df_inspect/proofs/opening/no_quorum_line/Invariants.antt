@@ -1,6 +1,5 @@
 -- The classes gone over are put after the first words.
-use Rattle.std.proofs.Common.{◌≡◌, ◌≤◌, ◌+◌, ◌*◌, ◌++◌, codes, length, take}
-use Rattle.df_inspect.specs.Opening.{classes_text}
+use Rattle.{std.proofs.Common.{◌≡◌, ◌≤◌, ◌+◌, ◌*◌, ◌++◌, codes, length, take}, df_inspect.specs.Opening.{classes_text}}
 use Rattle.df_inspect.proofs.opening.no_quorum_line.Given as goal
 
 abbrev pub invariant-loop-class : goal.invariant-loop-class

@@ -1,6 +1,5 @@
 -- The counters are those of the slots that were passed.
-use Rattle.std.proofs.Common.{◌≡◌}
-use Rattle.df_journal.proofs.Counted.{CountsSlots}
+use Rattle.{std.proofs.Common.{◌≡◌}, df_journal.proofs.Counted.{CountsSlots}}
 use Rattle.df_journal.proofs.counts.count_rings.Given as goal
 
 abbrev pub invariant-loop-slot : goal.invariant-loop-slot

@@ -1,6 +1,5 @@
 -- Each is looked at once.
-use Rattle.std.proofs.{Common.{arith}, lemmas.Option.{slice_get_within}}
-use Rattle.df_journal.proofs.GroupWrites.{own_more, stands_at}
+use Rattle.{std.proofs.{Common.{arith}, lemmas.Option.{slice_get_within}}, df_journal.proofs.GroupWrites.{own_more, stands_at}}
 use Rattle.df_journal.proofs.flushing.are_own.Goals as goal
 
 pub loop-i-preserved : goal.loop-i-preserved

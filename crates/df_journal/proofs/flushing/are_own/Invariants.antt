@@ -1,6 +1,5 @@
 -- Each prepare before this one stands in its slot.
-use Rattle.std.{proofs.Common.{◌≡◌, ◌<◌, ◌≤◌, ◌-◌, ℕ, length, Some}, specs.List.{slice_get}}
-use Rattle.df_buffers.specs.Sounds.{Holding}
+use Rattle.{std.{proofs.Common.{◌≡◌, ◌<◌, ◌≤◌, ◌-◌, ℕ, length, Some}, specs.List.{slice_get}}, df_buffers.specs.Sounds.{Holding}}
 use Rattle.df_journal.specs.Flush.{IsOwn}
 use Rattle.df_journal.proofs.flushing.are_own.Given as goal
 

@@ -1,6 +1,5 @@
 -- The last of them is the one after which there is none.
-use Rattle.std.proofs.Common.{◌/◌, ◌-◌, ℕ, length, ◌∙◌, ap, arith}
-use Rattle.df_format.specs.declared.header.Header.{Header}
+use Rattle.{std.proofs.Common.{◌/◌, ◌-◌, ℕ, length, ◌∙◌, ap, arith}, df_format.specs.declared.header.Header.{Header}}
 use Rattle.df_journal.proofs.GroupWrites.{last_held, stands_at}
 use Rattle.df_journal.proofs.flushing.ends.Goals as goal
 

@@ -1,6 +1,5 @@
 -- All puts from the start are those from this prepare on, after what was told, and so are the headers after the table.
-use Rattle.std.proofs.Common.{◌≡◌, ◌≤◌, ◌-◌, ℕ, length, drop}
-use Rattle.df_headers.specs.Ring.{IsHeaderTable}
+use Rattle.{std.proofs.Common.{◌≡◌, ◌≤◌, ◌-◌, ℕ, length, drop}, df_headers.specs.Ring.{IsHeaderTable}}
 use Rattle.df_journal.{specs.Flush.{MayPutGroup, group_puts, held_prepares, with_headers}, proofs.RingWrites.{LeadsAs}}
 use Rattle.df_journal.proofs.flushing.put_all.Given as goal
 

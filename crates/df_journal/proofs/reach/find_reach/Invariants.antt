@@ -1,6 +1,5 @@
 -- The prepares that were passed are taken and fit: whole groups, which end at the tail's end, and after them a part of one.
-use Rattle.std.proofs.Common.{◌≡◌, ◌+◌, ◌-◌, ◌≤◌, ◌^◌}
-use Rattle.df_format.specs.Spelling.{IsCheck}
+use Rattle.{std.proofs.Common.{◌≡◌, ◌+◌, ◌-◌, ◌≤◌, ◌^◌}, df_format.specs.Spelling.{IsCheck}}
 use Rattle.df_theory.specs.{Units.{Units}, Shape.{Shape}, View.{Checkpoint}}
 use Rattle.df_journal.{specs.{Shows.{TellsRings}, Tail.{AreNumbered, AreUnstored, BeginsAt}}, proofs.Walks.{IsTakenWalk}}
 use Rattle.df_journal.proofs.reach.find_reach.Given as goal
@@ -20,7 +19,8 @@ invariant-loop-at l = record {
   unstored_on : AreUnstored l.initial.sessions.sessions → AreUnstored l.ahead.sessions;
   numbered : AreNumbered l.initial.sessions.sessions → AreNumbered l.sessions.sessions;
   numbered_on : AreNumbered l.initial.sessions.sessions → AreNumbered l.ahead.sessions;
-  walk : (sh : Shape) (image : Units) (b : Checkpoint) → TellsRings l.layout image l.found → BeginsAt sh b l.layout l.found.start l.checksum l.initial.sessions.sessions
+  walk : (sh : Shape) (image : Units) (b : Checkpoint)
+      → TellsRings l.layout image l.found → BeginsAt sh b l.layout l.found.start l.checksum l.initial.sessions.sessions
       → IsTakenWalk l.layout.clients l.layout.slots image b l.tail l.sessions.sessions l.at l.ahead.sessions;
 }
 

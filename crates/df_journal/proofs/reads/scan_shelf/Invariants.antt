@@ -1,6 +1,5 @@
 -- The slots before this one are in the table.
-use Rattle.std.proofs.Common.{◌≡◌, ◌-◌, ◌≤◌, length}
-use Rattle.df_journal.specs.Scanned.{AreSeen, IsHeld}
+use Rattle.{std.proofs.Common.{◌≡◌, ◌-◌, ◌≤◌, length}, df_journal.specs.Scanned.{AreSeen, IsHeld}}
 use Rattle.df_journal.proofs.reads.scan_shelf.Given as goal
 
 abbrev pub invariant-loop-slot : goal.invariant-loop-slot

@@ -1,5 +1,4 @@
-use Rattle.std.proofs.{Common.{◌∙◌, ◌∷◌, [], inl, inr, sym, ap, arith}, lemmas.Fmt.{decimal_digit}}
-use Rattle.df_lines.proofs.Decimals.{first_byte}
+use Rattle.{std.proofs.{Common.{◌∙◌, ◌∷◌, [], inl, inr, sym, ap, arith}, lemmas.Fmt.{decimal_digit}}, df_lines.proofs.Decimals.{first_byte}}
 use Rattle.df_lines.proofs.number.first_digit.Goals as goal
 
 pub returns-in-49-to-57-clause-found : goal.returns-in-49-to-57-clause-found

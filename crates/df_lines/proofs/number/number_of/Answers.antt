@@ -1,5 +1,4 @@
-use Rattle.std.proofs.Common.{◌∙◌, sym, arith}
-use Rattle.df_lines.proofs.Decimals.{one_number}
+use Rattle.{std.proofs.Common.{◌∙◌, sym, arith}, df_lines.proofs.Decimals.{one_number}}
 use Rattle.df_lines.proofs.number.number_of.Goals as goal
 
 pub returns-else-number-most-clause-none : goal.returns-else-number-most-clause-none

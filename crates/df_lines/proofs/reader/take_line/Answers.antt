@@ -6,6 +6,5 @@ pub returns-in_default-clause-takes : goal.returns-in_default-clause-takes
 returns-in_default-clause-takes g c = (
   refl,
   refl,
-  λ said within says.
-      c.in_default.ensures.none said (rw (sym c.bytes.ensures.value) at says),
+  λ said within says. c.in_default.ensures.none said (rw (sym c.bytes.ensures.value) at says),
 )

@@ -1,5 +1,4 @@
-use Rattle.std.proofs.Common.{sym}
-use Rattle.df_lines.{specs.Words.{is_space}, proofs.Cutting.{position_none, cut_is}}
+use Rattle.{std.proofs.Common.{sym}, df_lines.{specs.Words.{is_space}, proofs.Cutting.{position_none, cut_is}}}
 use Rattle.df_lines.proofs.words.cut.Goals as goal
 
 pub returns-in_err-at-clause-none : goal.returns-in_err-at-clause-none

@@ -1,7 +1,5 @@
 -- The events after the index are writes elsewhere.
-use Rattle.std.proofs.Common.{◌≡◌, take}
-use Rattle.df_base.specs.Log.{loose_of}
-use Rattle.df_memdisk.specs.History.{events_of}
+use Rattle.{std.proofs.Common.{◌≡◌, take}, df_base.specs.Log.{loose_of}, df_memdisk.specs.History.{events_of}}
 use Rattle.df_memdisk.proofs.history.is_loose.Given as goal
 
 abbrev pub invariant-loop-index : goal.invariant-loop-index

@@ -1,6 +1,5 @@
 -- The sectors before the index are filled.
-use Rattle.std.{proofs.Common.{◌≡◌, ◌*◌, take}, specs.Prelude.{reverse}}
-use Rattle.df_base.specs.Image.{bytes_at}
+use Rattle.{std.{proofs.Common.{◌≡◌, ◌*◌, take}, specs.Prelude.{reverse}}, df_base.specs.Image.{bytes_at}}
 use Rattle.df_memdisk.specs.{History.{events_of}, Struck.{shown_after}}
 use Rattle.df_memdisk.proofs.shown.show_sectors.Given as goal
 

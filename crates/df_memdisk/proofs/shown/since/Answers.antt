@@ -4,6 +4,5 @@ use Rattle.df_memdisk.{specs.{History.{events_of}, declared.history.Happened.{Ha
 use Rattle.df_memdisk.proofs.shown.since.Goals as goal
 
 pub returns : goal.returns
-returns c =
-    ap (λ (hs : List Happened). events_of hs) (take_rest c.args.past.now c.args.struck.now.events)
+returns c = ap (λ (hs : List Happened). events_of hs) (take_rest c.args.past.now c.args.struck.now.events)
     ∙ events_of-since c.args.struck.now.events c.args.past.now

@@ -1,6 +1,5 @@
 -- The sectors named so far are loose, and their bytes those of sectors.
-use Rattle.std.proofs.Common.{◌≡◌, drop, take}
-use Rattle.df_base.specs.Log.{AreLoose}
+use Rattle.{std.proofs.Common.{◌≡◌, drop, take}, df_base.specs.Log.{AreLoose}}
 use Rattle.df_memdisk.specs.{History.{changes_of, events_of}, State.{first_firm}}
 use Rattle.df_memdisk.proofs.stop.firm_sector.Given as goal
 

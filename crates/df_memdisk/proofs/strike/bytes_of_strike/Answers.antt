@@ -1,7 +1,5 @@
 -- Each kind of strike shows its bytes.
-use Rattle.std.proofs.Common.{List, ap, ◌∙◌}
-use Rattle.df_base.specs.{Image.{blank}, Log.{Event, now_of}}
-use Rattle.df_memdisk.specs.Strikes.{filled}
+use Rattle.{std.proofs.Common.{List, ap, ◌∙◌}, df_base.specs.{Image.{blank}, Log.{Event, now_of}}, df_memdisk.specs.Strikes.{filled}}
 use Rattle.df_memdisk.proofs.strike.bytes_of_strike.Goals as goal
 
 pub returns-in-Fill : goal.returns-in-Fill

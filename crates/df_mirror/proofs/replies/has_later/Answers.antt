@@ -9,20 +9,17 @@ pub loop-slot-init : goal.loop-slot-init
 loop-slot-init c = λ k below. absurd (omega (arith, below))
 
 pub returns-clause-no : goal.returns-clause-no
-returns-clause-no c = λ image tells none later.
-    none_later c.args.base.now c.args.slots.now c.args.client
+returns-clause-no c = λ image tells none later. none_later c.args.base.now c.args.slots.now c.args.client
     (λ k below. c.loop-slot.invariant k (omega (arith, below, c.loop-slot-test, c.loop-slot.auto))) image tells later
 
 pub loop-slot-preserved : goal.loop-slot-preserved
 loop-slot-preserved c = λ k below. elim (cases_eq k c.loop-slot.slot) [
-  | inl here ↦ subst (λ (n : ℕ). NoneLater c.args.base.now c.args.slots.now c.args.client n) (sym here)
-      (λ image p tells shown later.
+  | inl here ↦ subst (λ (n : ℕ). NoneLater c.args.base.now c.args.slots.now c.args.client n) (sym here) (λ image p tells shown later.
       let seen = later_seen c.args.base.now c.args.slots.now c.loop-slot.slot c.args.client image tells p shown later in
       elim c.match-prepare.branch [
         | in-Some+else-header-fields w ↦
             let both : Some seen.0 ≡ Some w.in-Some.header = sym seen.1 ∙ sym c.prepare.ensures ∙ w.in-Some.is in
-            let same : seen.0 ≡ w.in-Some.header = same_Some _ _ both in
-            elim w.else-header-fields.branch [
+            let same : seen.0 ≡ w.in-Some.header = same_Some _ _ both in elim w.else-header-fields.branch [
               | else-header-fields-via-then-header-fields+then-fields-header+else-header-client v ↦
                   v.if-header-client.false (ap (λ (h : Header). h.client) (sym same) ∙ seen.4)
               | else-header-fields-via-then-header-fields+else-fields-header v ↦

@@ -1,6 +1,5 @@
 -- The named prepares up to an op were noted.
-use Rattle.std.proofs.Common.{◌≡◌, ◌-◌, ◌≤◌}
-use Rattle.df_mirror.proofs.HeadSessions.{HasNoted}
+use Rattle.{std.proofs.Common.{◌≡◌, ◌-◌, ◌≤◌}, df_mirror.proofs.HeadSessions.{HasNoted}}
 use Rattle.df_mirror.proofs.replies.sessions_at_head.Given as goal
 
 abbrev pub invariant-loop-op : goal.invariant-loop-op

@@ -1,6 +1,5 @@
 -- Where the disk isn't blank nothing is written; else the calls are the theory's making, or a part of it.
-use Rattle.std.proofs.Common.{subst}
-use Rattle.df_format.specs.SuperRules.{IsUsable}
+use Rattle.{std.proofs.Common.{subst}, df_format.specs.SuperRules.{IsUsable}}
 use Rattle.df_opening.proofs.Formatted.{failed_formats, made_formats, refused_formats}
 use Rattle.df_opening.proofs.making.make_on_blank.Goals as goal
 

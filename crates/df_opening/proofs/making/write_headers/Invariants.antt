@@ -1,7 +1,5 @@
 -- The sectors before this one are written.
-use Rattle.std.proofs.Common.{◌≡◌, ◌≤◌, ◌-◌, ◌/◌}
-use Rattle.df_disk.specs.Adds.{after_all}
-use Rattle.df_units.specs.Making.{header_writes}
+use Rattle.{std.proofs.Common.{◌≡◌, ◌≤◌, ◌-◌, ◌/◌}, df_disk.specs.Adds.{after_all}, df_units.specs.Making.{header_writes}}
 use Rattle.df_opening.specs.Making.{sectors_of}
 use Rattle.df_opening.proofs.making.write_headers.Given as goal
 

@@ -1,7 +1,5 @@
 -- The sectors before this one are written, where the list has a slot of them.
-use Rattle.std.proofs.Common.{◌≡◌, ◌≤◌, ◌-◌, ◌/◌}
-use Rattle.df_disk.specs.Adds.{after_all}
-use Rattle.df_headers.specs.Ring.{sector_writes}
+use Rattle.{std.proofs.Common.{◌≡◌, ◌≤◌, ◌-◌, ◌/◌}, df_disk.specs.Adds.{after_all}, df_headers.specs.Ring.{sector_writes}}
 use Rattle.df_opening.specs.Mending.{sectors_to, some_of}
 use Rattle.df_opening.proofs.mending.mend_headers.Given as goal
 

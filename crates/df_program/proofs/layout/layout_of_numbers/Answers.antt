@@ -7,41 +7,37 @@ pub returns-in_err-slots-clause-none : goal.returns-in_err-slots-clause-none
 returns-in_err-slots-clause-none c = rw c.from_residual.ensures (no_slots _ c.in_err-slots.ensures.none)
 
 pub returns-in_err-message_size-clause-none : goal.returns-in_err-message_size-clause-none
-returns-in_err-message_size-clause-none c =
-    rw c.from_residual-in_err-message_size.ensures
-    (behind_slots _ _ _ (record { is = c.in_ok-slots.ensures.found; fits = c.in_ok-slots.ensures.fits }) (no_message_size _ c.in_err-message_size.ensures.none))
+returns-in_err-message_size-clause-none c = rw c.from_residual-in_err-message_size.ensures (behind_slots _ _ _
+    (record { is = c.in_ok-slots.ensures.found; fits = c.in_ok-slots.ensures.fits }) (no_message_size _ c.in_err-message_size.ensures.none))
 
 pub returns-in_err-clients-clause-none : goal.returns-in_err-clients-clause-none
-returns-in_err-clients-clause-none c =
-    rw c.from_residual-in_err-clients.ensures
-    (behind_slots _ _ _ (record { is = c.in_ok-slots.ensures.found; fits = c.in_ok-slots.ensures.fits })
-    (behind_message_size _ _ _ (record { is = c.in_ok-message_size.ensures.found; fits = c.in_ok-message_size.ensures.fits }) (no_clients _ c.in_err-clients.ensures.none)))
-
-pub returns-in_err-block_size-clause-none : goal.returns-in_err-block_size-clause-none
-returns-in_err-block_size-clause-none c =
-    rw c.from_residual-in_err-block_size.ensures
+returns-in_err-clients-clause-none c = rw c.from_residual-in_err-clients.ensures
     (behind_slots _ _ _ (record { is = c.in_ok-slots.ensures.found; fits = c.in_ok-slots.ensures.fits })
     (behind_message_size _ _ _ (record { is = c.in_ok-message_size.ensures.found; fits = c.in_ok-message_size.ensures.fits })
-    (behind_clients _ _ _ (record { is = c.in_ok-clients.ensures.found; fits = c.in_ok-clients.ensures.fits }) (no_block_size _ c.in_err-block_size.ensures.none))))
+    (no_clients _ c.in_err-clients.ensures.none)))
 
-pub returns-in_err-blocks-clause-none : goal.returns-in_err-blocks-clause-none
-returns-in_err-blocks-clause-none c =
-    rw c.from_residual-in_err-blocks.ensures
+pub returns-in_err-block_size-clause-none : goal.returns-in_err-block_size-clause-none
+returns-in_err-block_size-clause-none c = rw c.from_residual-in_err-block_size.ensures
     (behind_slots _ _ _ (record { is = c.in_ok-slots.ensures.found; fits = c.in_ok-slots.ensures.fits })
     (behind_message_size _ _ _ (record { is = c.in_ok-message_size.ensures.found; fits = c.in_ok-message_size.ensures.fits })
     (behind_clients _ _ _ (record { is = c.in_ok-clients.ensures.found; fits = c.in_ok-clients.ensures.fits })
-    (behind_block_size _ _ _ (record { is = c.in_ok-block_size.ensures.found; fits = c.in_ok-block_size.ensures.fits }) (no_blocks _ _ c.in_err-blocks.ensures.none c.as_bytes.ensures.value)))))
+    (no_block_size _ c.in_err-block_size.ensures.none))))
+
+pub returns-in_err-blocks-clause-none : goal.returns-in_err-blocks-clause-none
+returns-in_err-blocks-clause-none c = rw c.from_residual-in_err-blocks.ensures
+    (behind_slots _ _ _ (record { is = c.in_ok-slots.ensures.found; fits = c.in_ok-slots.ensures.fits })
+    (behind_message_size _ _ _ (record { is = c.in_ok-message_size.ensures.found; fits = c.in_ok-message_size.ensures.fits })
+    (behind_clients _ _ _ (record { is = c.in_ok-clients.ensures.found; fits = c.in_ok-clients.ensures.fits })
+    (behind_block_size _ _ _ (record { is = c.in_ok-block_size.ensures.found; fits = c.in_ok-block_size.ensures.fits })
+    (no_blocks _ _ c.in_err-blocks.ensures.none c.as_bytes.ensures.value)))))
 
 pub returns : goal.returns
-returns c =
-    let whole =
-    five _ _ _ _ _ _ _ _ _ _ _
-    (record { is = c.in_ok-slots.ensures.found; fits = c.in_ok-slots.ensures.fits })
+returns c = let whole = five _ _ _ _ _ _ _ _ _ _ _ (record { is = c.in_ok-slots.ensures.found; fits = c.in_ok-slots.ensures.fits })
     (record { is = c.in_ok-message_size.ensures.found; fits = c.in_ok-message_size.ensures.fits })
     (record { is = c.in_ok-clients.ensures.found; fits = c.in_ok-clients.ensures.fits })
     (record { is = c.in_ok-block_size.ensures.found; fits = c.in_ok-block_size.ensures.fits })
-    c.as_bytes.ensures.value c.in_ok-blocks.ensures.found (omega arith) in
-    record {
-      found = made _ _ _ _ _ _ c.new.result c.ok.result whole c.ok.ensures.value c.new.ensures.slots c.new.ensures.message_size c.new.ensures.clients c.new.ensures.block_size (search rules);
+    c.as_bytes.ensures.value c.in_ok-blocks.ensures.found (omega arith) in record {
+      found = made _ _ _ _ _ _ c.new.result c.ok.result whole
+          c.ok.ensures.value c.new.ensures.slots c.new.ensures.message_size c.new.ensures.clients c.new.ensures.block_size (search rules);
       none = unmade _ _ _ _ _ _ c.new.result c.ok.result whole c.ok.ensures.value c.new.ensures.within;
     }

@@ -1,6 +1,4 @@
-use Rattle.std.specs.Prelude.{option_copied}
-use Rattle.df_format.specs.Copies.{content_in_copy}
-use Rattle.df_quorum.specs.{Quorum.{copies_of}, Best.{Best}}
+use Rattle.{std.specs.Prelude.{option_copied}, df_format.specs.Copies.{content_in_copy}, df_quorum.specs.{Quorum.{copies_of}, Best.{Best}}}
 use Rattle.df_quorum.proofs.best.best_of.Given as goal
 
 abbrev pub invariant-loop-number : goal.invariant-loop-number

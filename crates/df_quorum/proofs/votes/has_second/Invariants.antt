@@ -1,5 +1,4 @@
-use Rattle.std.proofs.Common.{◌≡◌, ◌<◌, ℕ, Some}
-use Rattle.df_quorum.specs.Quorum.{copies_of, content_of_copy}
+use Rattle.{std.proofs.Common.{◌≡◌, ◌<◌, ℕ, Some}, df_quorum.specs.Quorum.{copies_of, content_of_copy}}
 use Rattle.df_quorum.proofs.votes.has_second.Given as goal
 
 abbrev pub invariant-loop-other : goal.invariant-loop-other

@@ -1,9 +1,7 @@
 -- The greatest named op whose prepare isn't shown. Where all are shown, the walk; short of the head that the superblock names it has
 -- come to a named prepare that doesn't fit.
-use Rattle.std.proofs.Common.{arith, sym, subst}
-use Rattle.df_format.specs.Spelling.{IsCheck}
-use Rattle.df_theory.specs.{Shape.{Shape}, Units.{Units}, View.{Checkpoint}}
-use Rattle.df_journal.specs.{Shows.{TellsRings}, Tail.{FindsReach}}
+use Rattle.{std.proofs.Common.{arith, sym, subst}, df_format.specs.Spelling.{IsCheck}}
+use Rattle.{df_theory.specs.{Shape.{Shape}, Units.{Units}, View.{Checkpoint}}, df_journal.specs.{Shows.{TellsRings}, Tail.{FindsReach}}}
 use Rattle.df_recovery.{specs.Known.{IsBaseOf}, proofs.Naming.{begins_at, blames_lacking, blames_unfit, content_pin, names_from, pin_check}}
 use Rattle.df_recovery.proofs.finding.find_known.Goals.{After-find_reach-reach}
 use Rattle.df_recovery.proofs.finding.find_known.Goals as goal
@@ -15,8 +13,7 @@ lacking_known-requires-clause-checksum c = subst IsCheck (sym c.pin_checksum_of-
 pub returns-in-Some-clause-answer : goal.returns-in-Some-clause-answer
 returns-in-Some-clause-answer c = record {
   below = c.slot_of.ensures.below;
-  blames = λ sh image b tells is.
-      let f = c.args.fields.now in
+  blames = λ sh image b tells is. let f = c.args.fields.now in
       let names = names_from sh b c.args.layout.now f c.args.slots.now.start c.args.sessions.now.sessions is c.requires.start
       c.requires.rules.rules c.requires.size c.pin_checksum_of-named.result c.pin_checksum_of-named.ensures in
       blames_lacking sh b c.args.layout.now f c.args.slots.now.start c.args.sessions.now.sessions is c.requires.start
@@ -28,8 +25,7 @@ returns-in-Some-clause-answer c = record {
 walked : (c : After-find_reach-reach) (sh : Shape) (image : Units) (b : Checkpoint) → TellsRings c.args.layout.now image c.args.slots.now
     → IsBaseOf sh b c.args.layout.now c.args.fields.now c.args.sessions.now.sessions
     → FindsReach sh image b c.find_reach-reach.result c.find_reach-reach.new.sessions.sessions
-walked c sh image b tells is =
-    let f = c.args.fields.now in
+walked c sh image b tells is = let f = c.args.fields.now in
     let names = names_from sh b c.args.layout.now f c.args.slots.now.start c.args.sessions.now.sessions is c.requires.start
     c.requires.rules.rules c.requires.size c.pin_checksum_of-named.result c.pin_checksum_of-named.ensures in
     let begins = begins_at sh b c.args.layout.now f c.args.slots.now.start c.args.sessions.now.sessions is c.requires.start
@@ -39,8 +35,7 @@ walked c sh image b tells is =
 pub returns-then-reach-pin-clause-answer : goal.returns-then-reach-pin-clause-answer
 returns-then-reach-pin-clause-answer c = record {
   below = c.slot_of-then-reach-pin.ensures.below;
-  blames = λ sh image b tells is.
-      let pin = content_pin sh b c.args.layout.now c.args.fields.now c.args.sessions.now.sessions is in
+  blames = λ sh image b tells is. let pin = content_pin sh b c.args.layout.now c.args.fields.now c.args.sessions.now.sessions is in
       let found = walked (goal.at.returns-then-reach-pin-clause-answer c).After-find_reach-reach sh image b tells is in
       blames_unfit sh b c.args.layout.now c.args.fields.now c.args.slots.now.start c.args.sessions.now.sessions is c.requires.start
       c.requires.rules.rules c.requires.size image c.find_reach-reach.result.op c.slot_of-then-reach-pin.result

@@ -1,6 +1,5 @@
 -- The sessions before the place have the checksums of their replies.
-use Rattle.std.proofs.Common.{◌-◌, ◌≡◌, ◌≤◌}
-use Rattle.df_recovery.specs.Finding.{StoresTo}
+use Rattle.{std.proofs.Common.{◌-◌, ◌≡◌, ◌≤◌}, df_recovery.specs.Finding.{StoresTo}}
 use Rattle.df_recovery.proofs.finding.store_replies.Given as goal
 
 abbrev pub invariant-loop-place : goal.invariant-loop-place

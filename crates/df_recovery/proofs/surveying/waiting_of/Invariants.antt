@@ -1,6 +1,5 @@
 -- Those up to this op are in the list.
-use Rattle.std.proofs.Common.{◌-◌, ◌≡◌, ◌≤◌}
-use Rattle.df_recovery.specs.Waiting.{waiting_in}
+use Rattle.{std.proofs.Common.{◌-◌, ◌≡◌, ◌≤◌}, df_recovery.specs.Waiting.{waiting_in}}
 use Rattle.df_recovery.proofs.surveying.waiting_of.Given as goal
 
 abbrev pub invariant-loop-op : goal.invariant-loop-op

@@ -1,17 +1,14 @@
 -- What is planned makes sense, and as many prepares wait as are above the stored replies. The plan is that of the rooms' layout, which is
 -- the file's.
-use Rattle.std.proofs.Common.{◌-◌, ◌≡◌, ◌∙◌, ap, rules, subst, length, arith}
-use Rattle.df_layout.specs.declared.layout.Layout.{Layout}
+use Rattle.{std.proofs.Common.{◌-◌, ◌≡◌, ◌∙◌, ap, rules, subst, length, arith}, df_layout.specs.declared.layout.Layout.{Layout}}
 use Rattle.df_recovery.{specs.{Plan.{ArePlanned}, Surveying.{ArePlannedFrom}, Waiting.{waiting_in}}, proofs.Waits.{waiting_count}}
 use Rattle.df_recovery.proofs.surveying.with_plan.Goals as goal
 
 pub returns-clause-found : goal.returns-clause-found
-returns-clause-found c =
-    let scanned = c.requires.scanned in
+returns-clause-found c = let scanned = c.requires.scanned in
     let count : length c.waiting_of-waiting.result.items ≡ c.args.traces.now.tail.op - c.args.traces.now.replies =
     ap length c.waiting_of-waiting.ensures ∙ waiting_count c.args.scanned.rooms.log.layout.slots c.args.scanned.rooms.log.slots
-    c.plan.new.headers c.args.traces.now.replies c.args.traces.now.tail.op in
-    record {
+    c.plan.new.headers c.args.traces.now.replies c.args.traces.now.tail.op in record {
       read = record {
         named = scanned.named;
         version = scanned.version;
@@ -28,16 +25,11 @@ returns-clause-found c =
     }
 
 pub returns-clause-planned : goal.returns-clause-planned
-returns-clause-planned c =
-    let same = c.args.scanned.rooms.log_fits ∙ c.args.scanned.rooms_fit in
-    let cluster = c.args.scanned.file.cluster in
-    let slots = c.args.scanned.rooms.log.slots in
-    let copies = c.args.scanned.copies in
-    let head = c.args.traces.now.tail.op in
-    record {
+returns-clause-planned c = let same = c.args.scanned.rooms.log_fits ∙ c.args.scanned.rooms_fit in
+    let cluster = c.args.scanned.file.cluster in let slots = c.args.scanned.rooms.log.slots in let copies = c.args.scanned.copies in
+    let head = c.args.traces.now.tail.op in record {
       plan = subst (λ (l : Layout). ArePlannedFrom l cluster slots head copies.slots copies.found.chosen.members c.plan.new.headers
-          c.plan.new.mends.items) same
-          (record {
+          c.plan.new.mends.items) same (record {
             is_table = c.plan.ensures.table;
             from = c.plan.ensures.tells;
             others = c.plan.ensures.whole;
@@ -48,8 +40,6 @@ returns-clause-planned c =
     }
 
 pub returns-clause-waiting : goal.returns-clause-waiting
-returns-clause-waiting c =
-    let same = c.args.scanned.rooms.log_fits ∙ c.args.scanned.rooms_fit in
-    c.waiting_of-waiting.ensures
+returns-clause-waiting c = let same = c.args.scanned.rooms.log_fits ∙ c.args.scanned.rooms_fit in c.waiting_of-waiting.ensures
     ∙ ap (λ (l : Layout). waiting_in l.slots c.args.scanned.rooms.log.slots c.plan.new.headers c.args.traces.now.replies
     c.args.traces.now.tail.op) same

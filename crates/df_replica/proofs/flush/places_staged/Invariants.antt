@@ -1,6 +1,5 @@
 -- The sessions after the requests before the index are counted.
-use Rattle.std.proofs.Common.{◌≡◌, ◌≤◌, ◌+◌, ◌-◌, length}
-use Rattle.df_replica.specs.Flushing.{sessions_staged}
+use Rattle.{std.proofs.Common.{◌≡◌, ◌≤◌, ◌+◌, ◌-◌, length}, df_replica.specs.Flushing.{sessions_staged}}
 use Rattle.df_replica.proofs.flush.places_staged.Given as goal
 
 abbrev pub invariant-loop-i : goal.invariant-loop-i

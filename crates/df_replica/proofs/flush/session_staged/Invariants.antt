@@ -1,8 +1,6 @@
 -- The session is that after the requests before the index.
-use Rattle.std.{proofs.Common.{◌≡◌, ◌≤◌, ◌-◌, ◌^◌}, specs.Prelude.{IfSome, option_map}}
-use Rattle.df_sessions.specs.Requests.{session_of}
-use Rattle.df_model.specs.Refusals.{session_of_client}
-use Rattle.df_replica.specs.Flushing.{sessions_staged}
+use Rattle.{std.{proofs.Common.{◌≡◌, ◌≤◌, ◌-◌, ◌^◌}, specs.Prelude.{IfSome, option_map}}, df_sessions.specs.Requests.{session_of}}
+use Rattle.{df_model.specs.Refusals.{session_of_client}, df_replica.specs.Flushing.{sessions_staged}}
 use Rattle.df_replica.proofs.flush.session_staged.Given as goal
 
 abbrev pub invariant-loop-i : goal.invariant-loop-i

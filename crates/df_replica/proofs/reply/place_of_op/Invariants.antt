@@ -1,6 +1,5 @@
 -- No session before the place has the op.
-use Rattle.std.proofs.Common.{◌-◌, ◌≤◌}
-use Rattle.df_replica.proofs.ReplyTests.{LackBefore}
+use Rattle.{std.proofs.Common.{◌-◌, ◌≤◌}, df_replica.proofs.ReplyTests.{LackBefore}}
 use Rattle.df_replica.proofs.reply.place_of_op.Given as goal
 
 abbrev pub invariant-loop-place : goal.invariant-loop-place

@@ -1,7 +1,5 @@
 -- What is written is the reply that was made in the room.
-use Rattle.std.proofs.Common.{◌∙◌, ap, subst}
-use Rattle.df_format.specs.Message.{Message}
-use Rattle.df_replies.specs.Slots.{IsInReplySlot}
+use Rattle.{std.proofs.Common.{◌∙◌, ap, subst}, df_format.specs.Message.{Message}, df_replies.specs.Slots.{IsInReplySlot}}
 use Rattle.df_replica.proofs.MadeUnits.{is_made}
 use Rattle.df_replica.proofs.reply.reply_in.Goals as goal
 

@@ -1,6 +1,5 @@
 -- The slots before this one are in the list.
-use Rattle.std.proofs.Common.{◌≡◌, ◌-◌, ◌≤◌, length}
-use Rattle.df_replies.specs.Shown.{AreSeenReplies}
+use Rattle.{std.proofs.Common.{◌≡◌, ◌-◌, ◌≤◌, length}, df_replies.specs.Shown.{AreSeenReplies}}
 use Rattle.df_replies.proofs.table.scan_replies.Given as goal
 
 abbrev pub invariant-loop-place : goal.invariant-loop-place

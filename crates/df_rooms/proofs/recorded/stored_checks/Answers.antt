@@ -5,4 +5,5 @@ use Rattle.df_rooms.proofs.recorded.stored_checks.Goals as goal
 
 pub returns : goal.returns
 unfolding stored_checks
-returns c = fill_by_all (λ k. stored_check (slice_get c.args.sessions.now.sessions k)) c.loop-place.checks 64 [] c.loop-place.invariant.0 (search rules)
+returns c = fill_by_all (λ k.
+    stored_check (slice_get c.args.sessions.now.sessions k)) c.loop-place.checks 64 [] c.loop-place.invariant.0 (search rules)

@@ -1,6 +1,5 @@
 -- Each call is exact, and what is heard of its answer is what it came to.
-use Rattle.std.proofs.Common.{subst, sym}
-use Rattle.df_model.specs.{Called.{command_of}, declared.commands.Command.{Command}}
+use Rattle.{std.proofs.Common.{subst, sym}, df_model.specs.{Called.{command_of}, declared.commands.Command.{Command}}}
 use Rattle.df_session.{specs.Endings.{KeepsTour, MakesTo}, proofs.{Exact.{append_called, begin_called, flush_called, release_called, reply_called, stage_called, step_called, write_called}, InWords.{heard_so}}}
 use Rattle.df_session.proofs.calls.make.Goals as goal
 
@@ -45,8 +44,8 @@ returns-in-Begin g c =
     record { makes = made.makes; tour = made.tour; live = made.live; disk = made.disk }
 
 pub returns-in-Scrub-clause-makes : goal.returns-in-Scrub-clause-makes
-returns-in-Scrub-clause-makes g c =
-    subst (λ (x : Command). MakesTo (command_of x) c.args.replica.now c.check.new.replica (g.D.Disk.told c.args.disk.now) (g.D.Disk.told c.check.new.disk) c.check.result) (sym c.in-Scrub.is) c.check.ensures.makes
+returns-in-Scrub-clause-makes g c = subst (λ (x : Command). MakesTo (command_of x) c.args.replica.now c.check.new.replica
+    (g.D.Disk.told c.args.disk.now) (g.D.Disk.told c.check.new.disk) c.check.result) (sym c.in-Scrub.is) c.check.ensures.makes
 
 pub returns-in-Scrub-clause-tour : goal.returns-in-Scrub-clause-tour
 returns-in-Scrub-clause-tour g c = rw c.in-Scrub.is c.check.ensures.tour

@@ -1,5 +1,4 @@
-use Rattle.std.proofs.Common.{◌<◌, ◌≤◌, ℕ}
-use Rattle.df_superblock.specs.Calls.{IsCopyRead}
+use Rattle.{std.proofs.Common.{◌<◌, ◌≤◌, ℕ}, df_superblock.specs.Calls.{IsCopyRead}}
 use Rattle.df_superblock.proofs.updates.first_missing.Given as goal
 
 abbrev pub invariant-loop-number : goal.invariant-loop-number

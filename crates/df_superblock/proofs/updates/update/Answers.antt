@@ -1,5 +1,4 @@
-use Rattle.std.proofs.{Common.{Option, Result, Ok, Err, OnOk, arith, sym, subst}, lemmas.Grind.{common_steps}}
-use Rattle.df_disk.specs.Told.{Told}
+use Rattle.{std.proofs.{Common.{Option, Result, Ok, Err, OnOk, arith, sym, subst}, lemmas.Grind.{common_steps}}, df_disk.specs.Told.{Told}}
 use Rattle.df_superblock.{specs.Calls.{EndsEqual, ShowsEqual, UpdatesSafely}, proofs.{Written.{ends_equal, ends_shown, updates_safely}, Stepped.{update_is_steps}}}
 use Rattle.df_superblock.proofs.updates.update.Goals as goal
 
@@ -18,8 +17,7 @@ pub returns-in-Ok-read_all-clause-steps : goal.returns-in-Ok-read_all-clause-ste
 returns-in-Ok-read_all-clause-steps g c = update_is_steps c.args.content.now c.fields-fields.ensures.usable
 
 pub returns-in-Ok-read_all-clause-undamaged : goal.returns-in-Ok-read_all-clause-undamaged
-returns-in-Ok-read_all-clause-undamaged g c =
-    let shown : ShowsEqual c.args.content.now (g.D.Disk.told c.write_copies.new.disk) =
+returns-in-Ok-read_all-clause-undamaged g c = let shown : ShowsEqual c.args.content.now (g.D.Disk.told c.write_copies.new.disk) =
     ends_shown {E = Unit {0}} c.args.content.now _ _ (Ok c.in-Ok.field-0) c.fields-fields.ensures.usable c.in-Ok.ensures.events in
     grind (arith, common_steps)
 

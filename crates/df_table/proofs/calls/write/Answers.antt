@@ -3,9 +3,7 @@ use Rattle.df_table.proofs.Called.{write_comes}
 use Rattle.df_table.proofs.calls.write.Goals as goal
 
 pub returns : goal.returns
-returns g c =
-    let is = c.write_block-answer.ensures in
-    let takes =
+returns g c = let is = c.write_block-answer.ensures in let takes =
     write_comes c.args.replica.now c.write_block-answer.new.self (g.D.Disk.told c.args.disk.now) (g.D.Disk.told c.write_block-answer.new.disk)
     (g.D.Disk.faults c.args.disk.now) (g.D.Disk.faults c.write_block-answer.new.disk) c.args.body.now c.write_block-answer.result
     c.done_or.result c.done_or.ensures is.exact is.call is.own is.cause in

@@ -1,8 +1,6 @@
 -- The steps so far were taken, and the checkpoint runs on.
-use Rattle.std.{proofs.Common.{◌≡◌, ℕ, true, length}, specs.Prelude.{replicate, Some}}
-use Rattle.df_model.specs.Commands.{Advance}
-use Rattle.df_session.specs.Below.{RunningState}
-use Rattle.df_table.{specs.{Calls.{IsCheckpointing}, Turns.{MakeAll}}, proofs.Steps.{IsUnder}}
+use Rattle.{std.{proofs.Common.{◌≡◌, ℕ, true, length}, specs.Prelude.{replicate, Some}}, df_model.specs.Commands.{Advance}}
+use Rattle.{df_session.specs.Below.{RunningState}, df_table.{specs.{Calls.{IsCheckpointing}, Turns.{MakeAll}}, proofs.Steps.{IsUnder}}}
 use Rattle.df_table.proofs.checkpointing.finish.Given as goal
 
 abbrev pub invariant-loop-done : goal.invariant-loop-done

@@ -7,9 +7,8 @@ use Rattle.df_table.proofs.turns.get.Goals as goal
 pub returns-in-Some-clause-tells : goal.returns-in-Some-clause-tells
 returns-in-Some-clause-tells g c = λ n.
     let there : map.get c.args.session.now.table.rows c.args.key ≡ Some c.in-Some.value.now = sym (rw c.in-Some.is at c.get.ensures) in
-    let old = g.W.Sink.written c.args.sink.now in
-    let new = g.W.Sink.written c.print_answer.new.sink in
-    subst (λ (text : List ℕ). TellsLine text old new c.printed.result) (found_text c.args.session.now.table n c.args.key c.in-Some.value.now there)
+    let old = g.W.Sink.written c.args.sink.now in let new = g.W.Sink.written c.print_answer.new.sink in subst (λ (text : List ℕ).
+    TellsLine text old new c.printed.result) (found_text c.args.session.now.table n c.args.key c.in-Some.value.now there)
     (c.printed.ensures.prints _ _ _ c.print_answer.ensures.prints)
 
 pub returns-in-None-clause-tells : goal.returns-in-None-clause-tells

@@ -7,16 +7,13 @@ use Rattle.df_table.{specs.Calls.{IsChanged}, proofs.{Behind.{done_executes, end
 use Rattle.df_table.proofs.turns.put.Goals as goal
 
 pub new-row-requires : goal.new-row-requires
-new-row-requires g c =
-    let may = put_may c.args.session.now.table c.args.key c.args.size c.requires.fine in
+new-row-requires g c = let may = put_may c.args.session.now.table c.args.key c.args.size c.requires.fine in
     omega (arith, may.0, ap (λ (l : List ℕ). length l) c.body.ensures, length-take-le c.args.size c.args.session.now.lines.body c.requires.size)
 
 pub change-requires : goal.change-requires
-change-requires g c =
-    let may = put_may c.args.session.now.table c.args.key c.args.size c.requires.fine in
-    let serving = c.requires.serving.1 in
-    let row : c.new-row.result ≡ (c.args.key, take c.args.size c.args.session.now.lines.body) = c.new-row.ensures ∙ ap (λ (v : List ℕ). (c.args.key, v)) c.body.ensures in
-    record {
+change-requires g c = let may = put_may c.args.session.now.table c.args.key c.args.size c.requires.fine in
+    let serving = c.requires.serving.1 in let row : c.new-row.result ≡ (c.args.key, take c.args.size c.args.session.now.lines.body) =
+    c.new-row.ensures ∙ ap (λ (v : List ℕ). (c.args.key, v)) c.body.ensures in record {
       live = serving.live;
       buffer = serving.block;
       fits = rw row (record { key = c.ranges.key.fits; value = omega (arith, may.0, length-take-le c.args.size c.args.session.now.lines.body c.requires.size) });
@@ -24,23 +21,22 @@ change-requires g c =
     }
 
 pub returns-in-Ok-clause-executes : goal.returns-in-Ok-clause-executes
-returns-in-Ok-clause-executes g c =
-    let s = c.args.session.now in
-    let value = take c.args.size s.lines.body in
-    let asked : commands.Put c.new-row.result ≡ commands.Put (c.args.key, value) = ap commands.Put (c.new-row.ensures ∙ ap (λ (v : List ℕ). (c.args.key, v)) c.body.ensures) in
-    done_executes s.layout (Put c.args.key value) (commands.Put (c.args.key, value)) s c.change.new.session (g.D.Disk.told c.args.disk.now) (g.D.Disk.told c.change.new.disk) (g.W.Sink.written c.args.sink.now) (g.W.Sink.written c.print_answer.new.sink)
+returns-in-Ok-clause-executes g c = let s = c.args.session.now in let value = take c.args.size s.lines.body in
+    let asked : commands.Put c.new-row.result ≡ commands.Put (c.args.key, value) =
+    ap commands.Put (c.new-row.ensures ∙ ap (λ (v : List ℕ). (c.args.key, v)) c.body.ensures) in
+    done_executes s.layout (Put c.args.key value) (commands.Put (c.args.key, value)) s c.change.new.session (g.D.Disk.told c.args.disk.now)
+    (g.D.Disk.told c.change.new.disk) (g.W.Sink.written c.args.sink.now) (g.W.Sink.written c.print_answer.new.sink)
     (put_asks s.table c.args.key c.args.size s.lines.body c.requires.size c.requires.fine) (record { key = c.ranges.key.fits; value = put_short s.table c.args.key c.args.size s.lines.body c.requires.size c.requires.fine }) c.in-Ok.ensures.leaves c.in-Ok.op
-    (line_of (numbered (codes "put") c.in-Ok.op)) c.printed.result
-    (λ ready few. rw asked at (c.in-Ok.ensures.changed ready few))
+    (line_of (numbered (codes "put") c.in-Ok.op)) c.printed.result (λ ready few. rw asked at (c.in-Ok.ensures.changed ready few))
     (c.in-Ok.ensures.applied.table ∙ ap (λ (k : Command). with_command k s.table) asked) c.in-Ok.ensures.applied.live (λ op. put_text s.table s.replica.head c.args.key c.args.size s.lines.body c.requires.size c.requires.fine ∙ ap (λ (n : ℕ). line_of (numbered (codes "put") n)) (sym op))
     (c.printed.ensures.prints _ _ _ c.print_answer.ensures.prints)
 
 pub returns-in-Err-clause-executes : goal.returns-in-Err-clause-executes
-returns-in-Err-clause-executes g c =
-    let value = take c.args.size c.args.session.now.lines.body in
-    let s = c.args.session.now in
-    let asked : commands.Put c.new-row.result ≡ commands.Put (c.args.key, value) = ap commands.Put (c.new-row.ensures ∙ ap (λ (v : List ℕ). (c.args.key, v)) c.body.ensures) in
-    ended_executes s.layout (Put c.args.key value) (commands.Put (c.args.key, value)) s c.change.new.session (g.D.Disk.told c.args.disk.now) (g.D.Disk.told c.change.new.disk) (g.W.Sink.written c.args.sink.now) (g.W.Sink.written c.tell_ending.new.sink)
+returns-in-Err-clause-executes g c = let value = take c.args.size c.args.session.now.lines.body in let s = c.args.session.now in
+    let asked : commands.Put c.new-row.result ≡ commands.Put (c.args.key, value) =
+    ap commands.Put (c.new-row.ensures ∙ ap (λ (v : List ℕ). (c.args.key, v)) c.body.ensures) in
+    ended_executes s.layout (Put c.args.key value) (commands.Put (c.args.key, value)) s c.change.new.session (g.D.Disk.told c.args.disk.now)
+    (g.D.Disk.told c.change.new.disk) (g.W.Sink.written c.args.sink.now) (g.W.Sink.written c.tell_ending.new.sink)
     (put_asks s.table c.args.key c.args.size s.lines.body c.requires.size c.requires.fine) (record { key = c.ranges.key.fits; value = put_short s.table c.args.key c.args.size s.lines.body c.requires.size c.requires.fine }) c.in-Err.ensures.leaves c.in-Err.ending c.tell_ending.result
     (λ ready few. rw asked at (c.in-Err.ensures.changed ready few)) c.tell_ending.ensures.writes
 

@@ -1,11 +1,11 @@
 -- The lines so far were executed, and nothing has failed.
-use Rattle.std.proofs.Common.{◌≡◌}
-use Rattle.df_table.specs.{Outside.{around}, Ready.{IsSteady}, Serving.{IsServing, ServingGoesOn, state}}
+use Rattle.{std.proofs.Common.{◌≡◌}, df_table.specs.{Outside.{around}, Ready.{IsSteady}, Serving.{IsServing, ServingGoesOn, state}}}
 use Rattle.df_table.proofs.turns.serve_lines.Given as goal
 
 abbrev pub invariant-loop-status : goal.invariant-loop-status
 invariant-loop-status g l = record {
-  goes : IsSteady l.fn.session.layout l.fn.session.replica l.fn.session.table → ServingGoesOn l.fn.session.layout (state (around (g.D.Disk.told l.initial.disk) (g.S.Source.left l.initial.source) (g.W.Sink.written l.initial.sink)) l.fn.session)
+  goes : IsSteady l.fn.session.layout l.fn.session.replica l.fn.session.table → ServingGoesOn l.fn.session.layout
+      (state (around (g.D.Disk.told l.initial.disk) (g.S.Source.left l.initial.source) (g.W.Sink.written l.initial.sink)) l.fn.session)
       (state (around (g.D.Disk.told l.disk) (g.S.Source.left l.source) (g.W.Sink.written l.sink)) l.session);
   steady : IsSteady l.fn.session.layout l.fn.session.replica l.fn.session.table → IsSteady l.fn.session.layout l.session.replica l.session.table;
   layout : l.session.layout ≡ l.fn.session.layout;

@@ -3,13 +3,13 @@ use Rattle.df_top.proofs.Modes.{only_paced}
 use Rattle.df_top.proofs.mode.paced_mode.Goals as goal
 
 pub returns-in_err-scrub-clause-none : goal.returns-in_err-scrub-clause-none
-returns-in_err-scrub-clause-none c =
-    rw c.from_residual.ensures (only_paced c.args.scrub.now c.args.every.now c.args.steps.now (λ p scrub every steps few_scrub few_every few_steps. c.in_err-scrub.ensures.none p.scrub few_scrub scrub))
+returns-in_err-scrub-clause-none c = rw c.from_residual.ensures (only_paced c.args.scrub.now c.args.every.now
+    c.args.steps.now (λ p scrub every steps few_scrub few_every few_steps. c.in_err-scrub.ensures.none p.scrub few_scrub scrub))
 
 pub returns-in_err-every-clause-none : goal.returns-in_err-every-clause-none
-returns-in_err-every-clause-none c =
-    rw c.from_residual-in_err-every.ensures (only_paced c.args.scrub.now c.args.every.now c.args.steps.now (λ p scrub every steps few_scrub few_every few_steps. c.in_err-every.ensures.none p.every few_every every))
+returns-in_err-every-clause-none c = rw c.from_residual-in_err-every.ensures (only_paced c.args.scrub.now c.args.every.now
+    c.args.steps.now (λ p scrub every steps few_scrub few_every few_steps. c.in_err-every.ensures.none p.every few_every every))
 
 pub returns-in_err-steps-clause-none : goal.returns-in_err-steps-clause-none
-returns-in_err-steps-clause-none c =
-    rw c.from_residual-in_err-steps.ensures (only_paced c.args.scrub.now c.args.every.now c.args.steps.now (λ p scrub every steps few_scrub few_every few_steps. c.in_err-steps.ensures.none p.steps few_steps steps))
+returns-in_err-steps-clause-none c = rw c.from_residual-in_err-steps.ensures (only_paced c.args.scrub.now c.args.every.now
+    c.args.steps.now (λ p scrub every steps few_scrub few_every few_steps. c.in_err-steps.ensures.none p.steps few_steps steps))

@@ -1,6 +1,5 @@
 -- A read comes to a turn by what was found and by what was printed of it.
-use Rattle.std.{proofs.Common.{ap, Err, Ok}, specs.Prelude.{codes}}
-use Rattle.df_inspect.specs.Answers.{command_of}
+use Rattle.{std.{proofs.Common.{ap, Err, Ok}, specs.Prelude.{codes}}, df_inspect.specs.Answers.{command_of}}
 use Rattle.df_model.specs.{Commands.{ReadBlock, ReadPrepare, ReadReply}, Faults.{is_lookup_fault, is_prepare_fault, is_read_fault}}
 use Rattle.df_model.specs.declared.commands.Answer.TheVariants as answers
 use Rattle.df_session.specs.Endings.{heard}
@@ -11,14 +10,22 @@ use Rattle.df_top.proofs.reads.read.Goals as goal
 pub returns-in-Ok-clause-answers : goal.returns-in-Ok-clause-answers
 returns-in-Ok-clause-answers g c =
     (came_as (command_of c.args.command) (ReadPrepare c.in-ReadPrepare.op) is_prepare_fault c.args.replica.now c.read_prepare.follows.lender-at-none c.read_prepare.result (Ok c.in-Ok.unit) (g.D.Disk.told c.args.disk.now) (g.D.Disk.told c.read_prepare.new.disk) (g.W.Sink.written c.args.sink.now) (g.W.Sink.written c.print_prepare.new.sink) (g.D.Disk.faults c.args.disk.now) (g.D.Disk.faults c.read_prepare.new.disk) c.printed.result (ap command_of c.in-ReadPrepare.is) c.read_prepare.follows.holds-at-none c.in-Ok.is
-    (prepare_shown c.args.replica.now c.args.replica.now (g.D.Disk.told c.args.disk.now) (g.D.Disk.told c.read_prepare.new.disk) c.in-Ok.ensures.same (g.W.Sink.written c.args.sink.now) (g.W.Sink.written c.print_prepare.new.sink) (g.D.Disk.faults c.args.disk.now) (g.D.Disk.faults c.read_prepare.new.disk) c.printed.result c.in-ReadPrepare.op _ c.in-Ok.ensures.call c.in-Ok.ensures.cause
-    (shown_turn (codes "prepare") c.in-Ok.unit.now.unit c.header.result.now c.body.result.now (g.W.Sink.written c.args.sink.now) (g.W.Sink.written c.print_prepare.new.sink) c.print_prepare.result c.printed.result c.header.ensures.header c.body.ensures c.printed.ensures.is c.print_prepare.ensures.prints))).0
+    (prepare_shown c.args.replica.now c.args.replica.now (g.D.Disk.told c.args.disk.now) (g.D.Disk.told c.read_prepare.new.disk)
+    c.in-Ok.ensures.same (g.W.Sink.written c.args.sink.now) (g.W.Sink.written c.print_prepare.new.sink) (g.D.Disk.faults c.args.disk.now)
+    (g.D.Disk.faults c.read_prepare.new.disk) c.printed.result c.in-ReadPrepare.op _ c.in-Ok.ensures.call c.in-Ok.ensures.cause
+    (shown_turn (codes "prepare") c.in-Ok.unit.now.unit
+    c.header.result.now c.body.result.now (g.W.Sink.written c.args.sink.now) (g.W.Sink.written c.print_prepare.new.sink)
+    c.print_prepare.result c.printed.result c.header.ensures.header c.body.ensures c.printed.ensures.is c.print_prepare.ensures.prints))).0
 
 pub returns-in-Err-clause-answers : goal.returns-in-Err-clause-answers
 returns-in-Err-clause-answers g c =
     (came_as (command_of c.args.command) (ReadPrepare c.in-ReadPrepare.op) is_prepare_fault c.args.replica.now c.read_prepare.follows.lender-at-none c.read_prepare.result (Err c.in-Err.error) (g.D.Disk.told c.args.disk.now) (g.D.Disk.told c.read_prepare.new.disk) (g.W.Sink.written c.args.sink.now) (g.W.Sink.written c.tell.new.sink) (g.D.Disk.faults c.args.disk.now) (g.D.Disk.faults c.read_prepare.new.disk) c.tell.result (ap command_of c.in-ReadPrepare.is) c.read_prepare.follows.holds-at-none c.in-Err.is
-    (prepare_refused c.args.replica.now _ (g.D.Disk.told c.args.disk.now) (g.D.Disk.told c.read_prepare.new.disk) c.in-Err.ensures.same (g.W.Sink.written c.args.sink.now) (g.W.Sink.written c.tell.new.sink) (g.D.Disk.faults c.args.disk.now) (g.D.Disk.faults c.read_prepare.new.disk) c.tell.result c.in-ReadPrepare.op c.in-Err.error c.in-Err.ensures.call c.in-Err.ensures.cause
-    (tells_as (command_of c.args.command) (ReadPrepare c.in-ReadPrepare.op) (heard (answers.ReadPrepare (Err c.in-Err.error))) c.hear.result (g.W.Sink.written c.args.sink.now) (g.W.Sink.written c.tell.new.sink) c.tell.result (ap command_of c.in-ReadPrepare.is) c.hear.ensures c.tell.ensures.told))).0
+    (prepare_refused c.args.replica.now _ (g.D.Disk.told c.args.disk.now) (g.D.Disk.told c.read_prepare.new.disk)
+    c.in-Err.ensures.same (g.W.Sink.written c.args.sink.now) (g.W.Sink.written c.tell.new.sink) (g.D.Disk.faults c.args.disk.now)
+    (g.D.Disk.faults c.read_prepare.new.disk) c.tell.result c.in-ReadPrepare.op c.in-Err.error c.in-Err.ensures.call c.in-Err.ensures.cause
+    (tells_as (command_of c.args.command)
+    (ReadPrepare c.in-ReadPrepare.op) (heard (answers.ReadPrepare (Err c.in-Err.error))) c.hear.result (g.W.Sink.written c.args.sink.now)
+    (g.W.Sink.written c.tell.new.sink) c.tell.result (ap command_of c.in-ReadPrepare.is) c.hear.ensures c.tell.ensures.told))).0
 
 pub returns-in-Ok-read_reply-clause-answers : goal.returns-in-Ok-read_reply-clause-answers
 returns-in-Ok-read_reply-clause-answers g c =

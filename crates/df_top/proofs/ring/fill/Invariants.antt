@@ -1,8 +1,6 @@
 -- The places before this one were read.
-use Rattle.std.proofs.Common.{◌≡◌, ◌≤◌, ◌<◌, ◌-◌, Option, Some, length, take}
-use Rattle.df_disk.specs.Told.{Told}
-use Rattle.df_model.specs.Commands.{Recent, ToRecent}
-use Rattle.df_session.specs.Answering.{Serves}
+use Rattle.{std.proofs.Common.{◌≡◌, ◌≤◌, ◌<◌, ◌-◌, Option, Some, length, take}, df_disk.specs.Told.{Told}}
+use Rattle.{df_model.specs.Commands.{Recent, ToRecent}, df_session.specs.Answering.{Serves}}
 use Rattle.df_top.proofs.ring.fill.Given as goal
 
 abbrev pub invariant-loop-place : goal.invariant-loop-place

@@ -1,20 +1,16 @@
 -- The open answers of the file that the disk shows, and the tour leaves what it keeps.
-use Rattle.std.{proofs.Common.{ℕ, inr, refl, sym}, specs.Prelude.{Option}}
-use Rattle.df_disk.specs.Told.{Told}
+use Rattle.{std.{proofs.Common.{ℕ, inr, refl, sym}, specs.Prelude.{Option}}, df_disk.specs.Told.{Told}, df_program.proofs.Laws.{no_blame}}
 use Rattle.df_session.specs.{Below.{State}, Found.{FoundFile}}
 use Rattle.df_top.{specs.{Outside.{Blames, Outside}, Scrubs.{ScrubsFile}, declared.mode.Mode.TheVariants.{Scrub}, declared.status.Status.TheVariants.{DiskFault, Memory, ReadFault, Words}}, proofs.{Causes.{refused_causes, refused_never}, Reported.{scrubs}, Served.{not_opened}, Tours.{never_so}}}
-use Rattle.df_program.proofs.Laws.{no_blame}
 use Rattle.df_top.proofs.scrubbing.scrub_file.Goals as goal
 
 pub returns-in-Ok-clause-scrubs : goal.returns-in-Ok-clause-scrubs
-returns-in-Ok-clause-scrubs g c = λ left t told whole.
-    let layout = c.args.rooms.layout in
-    let status = c.tour.result in
+returns-in-Ok-clause-scrubs g c = λ left t told whole. let layout = c.args.rooms.layout in let status = c.tour.result in
     let old : Outside = record { told = g.D.Disk.told c.args.disk.now; left = left; written = g.W.Sink.written c.args.sink.now } in
     let opened : Outside = record { told = g.D.Disk.told c.open.new.disk; left = left; written = g.W.Sink.written c.tour.new.sink } in (
       tt,
-      inr (inr (rw (sym c.tour.ensures.same) at
-          (scrubs layout t old opened status c.in-Ok.replica whole told refl c.in-Ok.ensures.live c.in-Ok.ensures.kept (c.in-Ok.ensures.opened t told) c.tour.ensures.tours))),
+      inr (inr (rw (sym c.tour.ensures.same) at (scrubs layout t old opened status
+          c.in-Ok.replica whole told refl c.in-Ok.ensures.live c.in-Ok.ensures.kept (c.in-Ok.ensures.opened t told) c.tour.ensures.tours))),
     )
 
 pub returns-in-Ok-clause-causes : goal.returns-in-Ok-clause-causes
@@ -26,14 +22,17 @@ returns-in-Ok-clause-causes g c = λ source. record {
 
 pub returns-clause-causes : goal.returns-clause-causes
 returns-clause-causes g c = λ source.
-    refused_causes (g.D.Disk.faults c.args.disk.now) (g.D.Disk.faults c.open.new.disk) source (g.W.Sink.faults c.args.sink.now) (g.W.Sink.faults c.refuse_file.new.sink) (g.W.Sink.written c.args.sink.now) (g.W.Sink.written c.refuse_file.new.sink)
+    refused_causes (g.D.Disk.faults c.args.disk.now) (g.D.Disk.faults c.open.new.disk) source (g.W.Sink.faults c.args.sink.now)
+    (g.W.Sink.faults c.refuse_file.new.sink) (g.W.Sink.written c.args.sink.now) (g.W.Sink.written c.refuse_file.new.sink)
     c.refuse_file.result State c.in-Err.error c.in-Err.ensures.cause c.refuse_file.ensures.prints c.refuse_file.ensures.sink
 
 pub returns-in-Ok-clause-ends : goal.returns-in-Ok-clause-ends
-returns-in-Ok-clause-ends g c = (never_so c.tour.result Memory c.tour.ensures.ends (λ no. no), never_so c.tour.result Words c.tour.ensures.ends (λ no. no))
+returns-in-Ok-clause-ends g c =
+    (never_so c.tour.result Memory c.tour.ensures.ends (λ no. no), never_so c.tour.result Words c.tour.ensures.ends (λ no. no))
 
 pub returns-clause-ends : goal.returns-clause-ends
-returns-clause-ends g c = refused_never c.in-Err.error (g.W.Sink.written c.args.sink.now) (g.W.Sink.written c.refuse_file.new.sink) c.refuse_file.result c.refuse_file.ensures.prints
+returns-clause-ends g c = refused_never c.in-Err.error
+    (g.W.Sink.written c.args.sink.now) (g.W.Sink.written c.refuse_file.new.sink) c.refuse_file.result c.refuse_file.ensures.prints
 
 pub returns-clause-scrubs : goal.returns-clause-scrubs
 returns-clause-scrubs g c = λ left t told whole.

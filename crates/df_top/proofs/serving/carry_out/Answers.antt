@@ -1,14 +1,12 @@
 -- A word that executes a script is served by its pace; no other one reads it.
-use Rattle.std.proofs.Common.{◌≡◌, refl, sym, ◌∙◌, subst}
-use Rattle.df_pace.specs.Beats.{idle}
+use Rattle.{std.proofs.Common.{◌≡◌, refl, sym, ◌∙◌, subst}, df_pace.specs.Beats.{idle}}
 use Rattle.df_top.specs.{Mode.{ReadsScript}, Outside.{Outside, around, seen}, Run.{ServesIn}, declared.mode.Mode.{Mode}, declared.mode.Mode.TheVariants.{Run, Inspect, Paced}}
 use Rattle.df_top.proofs.serving.carry_out.Goals as goal
 
 pub returns-in-Run : goal.returns-in-Run
-returns-in-Run g c =
-    let old : Outside = seen g.D.Disk.told g.S.Source.left g.W.Sink.written c.args.outside in
-    let new : Outside = around (g.D.Disk.told c.serve_file.new.outside.0) (g.S.Source.left c.serve_file.new.outside.1.0) (g.W.Sink.written c.serve_file.new.outside.1.1.0) in
-    record {
+returns-in-Run g c = let old : Outside = seen g.D.Disk.told g.S.Source.left g.W.Sink.written c.args.outside in
+    let new : Outside = around (g.D.Disk.told c.serve_file.new.outside.0)
+    (g.S.Source.left c.serve_file.new.outside.1.0) (g.W.Sink.written c.serve_file.new.outside.1.1.0) in record {
       serves = rw c.in-Run.is (c.serve_file.ensures.serves Run c.idle.ensures);
       inspects = λ is. absurd (let no : Run ≡ Inspect = sym c.in-Run.is ∙ is in cc);
       unread = λ no. absurd (no (subst ReadsScript (sym c.in-Run.is) (idle, refl)));
@@ -22,9 +20,7 @@ returns-in-Paced g c = record {
   causes = c.serve_file-in-Paced.ensures.causes;
   unread = λ no. absurd (no (subst ReadsScript (sym c.in-Paced.is) (c.in-Paced.pace, refl)));
   inspects = λ is. absurd (let no : Paced c.in-Paced.pace ≡ Inspect = sym c.in-Paced.is ∙ is in cc);
-  serves =
-      rw c.in-Paced.is
-      (c.serve_file-in-Paced.ensures.serves (Paced c.in-Paced.pace) refl);
+  serves = rw c.in-Paced.is (c.serve_file-in-Paced.ensures.serves (Paced c.in-Paced.pace) refl);
 }
 
 pub returns-in_default : goal.returns-in_default

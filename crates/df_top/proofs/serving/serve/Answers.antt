@@ -4,19 +4,19 @@ use Rattle.df_top.{specs.{Outside.{Outside}, Run.{ServesIn}, declared.mode.Mode.
 use Rattle.df_top.proofs.serving.serve.Goals as goal
 
 pub carry_out-requires : goal.carry_out-requires
-carry_out-requires g c =
-    let words = map string_bytes c.args.words.now in
-    let means = c.in-Some.ensures.found in
+carry_out-requires g c = let words = map string_bytes c.args.words.now in let means = c.in-Some.ensures.found in
     record { runnable = runnable words c.in-Some.mode means (of_file_asked words c.in-Some.mode c.requires.words means); lines = c.requires.lines }
 
 pub returns-clause-serves : goal.returns-clause-serves
-returns-clause-serves g c = λ mode asks.
-    let old : Outside = record { told = g.D.Disk.told c.args.disk.now; left = g.S.Source.left c.args.source.now; written = g.W.Sink.written c.args.sink.now } in
+returns-clause-serves g c = λ mode asks. let old : Outside =
+    record { told = g.D.Disk.told c.args.disk.now; left = g.S.Source.left c.args.source.now; written = g.W.Sink.written c.args.sink.now } in
     let new : Outside = record { told = g.D.Disk.told c.carry_out.new.outside.0; left = g.S.Source.left c.carry_out.new.outside.1.0; written = g.W.Sink.written c.carry_out.new.outside.1.1.0 } in
-    subst (λ (m : Mode). ServesIn m c.args.rooms.layout old new c.carry_out.result) (one_mode (map string_bytes c.args.words.now) c.in-Some.mode mode c.in-Some.ensures.found asks) c.carry_out.ensures.serves
+    subst (λ (m : Mode). ServesIn m c.args.rooms.layout old new c.carry_out.result)
+    (one_mode (map string_bytes c.args.words.now) c.in-Some.mode mode c.in-Some.ensures.found asks) c.carry_out.ensures.serves
 
 pub returns-clause-inspects : goal.returns-clause-inspects
-returns-clause-inspects g c = λ asks. c.carry_out.ensures.inspects (one_mode (map string_bytes c.args.words.now) c.in-Some.mode Inspect c.in-Some.ensures.found asks)
+returns-clause-inspects g c =
+    λ asks. c.carry_out.ensures.inspects (one_mode (map string_bytes c.args.words.now) c.in-Some.mode Inspect c.in-Some.ensures.found asks)
 
 pub returns-clause-hurt : goal.returns-clause-hurt
 returns-clause-hurt g c = λ mode asks. serves_over_hurt mode _ _ _ _ (returns-clause-serves g c mode asks)

@@ -1,10 +1,7 @@
 -- The file is opened and served, or it isn't.
-use Rattle.std.proofs.Common.{◌≡◌, ℕ, true, false, refl, sym, ap, ◌∙◌, arith}
-use Rattle.df_lines.specs.Text.{Reading}
-use Rattle.df_session.specs.Below.{State}
+use Rattle.{std.proofs.Common.{◌≡◌, ℕ, true, false, refl, sym, ap, ◌∙◌, arith}, df_lines.specs.Text.{Reading}}
+use Rattle.{df_session.specs.Below.{State}, df_model.specs.declared.answers.Summary.{Summary}, df_pace.specs.Beats.{started}}
 use Rattle.df_top.{specs.{Outside.{Blames, Outside, seen}, declared.session.Session.{Session}, declared.status.Status.TheVariants.{DiskFault}, Session.{state}}, proofs.{Causes.{ended_never, refused_causes, refused_never}, Served.{executed, from_start, not_executed, serves}}}
-use Rattle.df_model.specs.declared.answers.Summary.{Summary}
-use Rattle.df_pace.specs.Beats.{started}
 use Rattle.df_top.proofs.serving.serve_file.Goals as goal
 
 -- a reader that has read nothing hasn't ended, and has its whole budget
@@ -19,11 +16,15 @@ pub returns-in-Ok-clause-serves : goal.returns-in-Ok-clause-serves
 returns-in-Ok-clause-serves g c = λ mode executes t told whole.
     let old : Outside = seen g.D.Disk.told g.S.Source.left g.W.Sink.written c.args.outside in
     let new : Outside = record { told = g.D.Disk.told c.serve_script.new.outside.0; left = g.S.Source.left c.serve_script.new.outside.1.0; written = g.W.Sink.written c.serve_script.new.outside.1.1.0 } in
-    let session : Session = record { replica = c.in-Ok.replica; lines = c.args.lines; count = 0; pace = c.args.pace; beat = c.start-beat.result } in
+    let session : Session =
+    record { replica = c.in-Ok.replica; lines = c.args.lines; count = 0; pace = c.args.pace; beat = c.start-beat.result } in
     executed mode c.args.pace executes c.args.rooms.layout t old new c.serve_script.result
-    (serves c.args.pace c.args.rooms.layout t old new c.serve_script.result c.in-Ok.replica (g.D.Disk.told c.open.new.disk) whole told c.in-Ok.ensures.live c.in-Ok.ensures.kept (c.in-Ok.ensures.opened t told)
+    (serves c.args.pace c.args.rooms.layout t old new c.serve_script.result
+    c.in-Ok.replica (g.D.Disk.told c.open.new.disk) whole told c.in-Ok.ensures.live c.in-Ok.ensures.kept (c.in-Ok.ensures.opened t told)
     (state new c.serve_script.new.session) refl
-    (from_start c.args.pace (g.D.Disk.told c.open.new.disk) old session c.args.rooms.layout (state new c.serve_script.new.session) c.serve_script.result c.requires.lines refl (c.start-beat.ensures ∙ ap (λ (s : Summary). started s.head) c.summary.ensures) c.serve_script.ensures.session))
+    (from_start
+    c.args.pace (g.D.Disk.told c.open.new.disk) old session c.args.rooms.layout (state new c.serve_script.new.session) c.serve_script.result
+    c.requires.lines refl (c.start-beat.ensures ∙ ap (λ (s : Summary). started s.head) c.summary.ensures) c.serve_script.ensures.session))
 
 pub returns-in-Err-clause-serves : goal.returns-in-Err-clause-serves
 returns-in-Err-clause-serves g c = λ mode executes t told whole.
@@ -33,7 +34,9 @@ returns-in-Err-clause-serves g c = λ mode executes t told whole.
 
 pub returns-in-Err-clause-causes : goal.returns-in-Err-clause-causes
 returns-in-Err-clause-causes g c =
-    refused_causes (g.D.Disk.faults c.args.outside.disk.now) (g.D.Disk.faults c.open.new.disk) (g.S.Source.faults c.args.outside.source.now) (g.W.Sink.faults c.args.outside.sink.now) (g.W.Sink.faults c.refuse_file.new.sink) (g.W.Sink.written c.args.outside.sink.now) (g.W.Sink.written c.refuse_file.new.sink)
+    refused_causes (g.D.Disk.faults c.args.outside.disk.now)
+    (g.D.Disk.faults c.open.new.disk) (g.S.Source.faults c.args.outside.source.now) (g.W.Sink.faults c.args.outside.sink.now)
+    (g.W.Sink.faults c.refuse_file.new.sink) (g.W.Sink.written c.args.outside.sink.now) (g.W.Sink.written c.refuse_file.new.sink)
     c.refuse_file.result State c.in-Err.error c.in-Err.ensures.cause c.refuse_file.ensures.prints c.refuse_file.ensures.sink
 
 pub returns-in-Ok-clause-causes : goal.returns-in-Ok-clause-causes
@@ -47,4 +50,5 @@ pub returns-in-Ok-clause-ends : goal.returns-in-Ok-clause-ends
 returns-in-Ok-clause-ends g c = ended_never _ _ _ _ c.serve_script.result c.serve_script.ensures.session
 
 pub returns-in-Err-clause-ends : goal.returns-in-Err-clause-ends
-returns-in-Err-clause-ends g c = refused_never c.in-Err.error (g.W.Sink.written c.args.outside.sink.now) (g.W.Sink.written c.refuse_file.new.sink) c.refuse_file.result c.refuse_file.ensures.prints
+returns-in-Err-clause-ends g c = refused_never c.in-Err.error
+    (g.W.Sink.written c.args.outside.sink.now) (g.W.Sink.written c.refuse_file.new.sink) c.refuse_file.result c.refuse_file.ensures.prints

@@ -1,6 +1,5 @@
 -- A session that goes on has a replica that does.
-use Rattle.std.proofs.{Common.{◌+◌, ℕ, ap, arith}, lemmas.Grind.{common_steps}}
-use Rattle.df_lines.specs.Grammar.{said_with}
+use Rattle.{std.proofs.{Common.{◌+◌, ℕ, ap, arith}, lemmas.Grind.{common_steps}}, df_lines.specs.Grammar.{said_with}}
 use Rattle.df_program.specs.declared.turn.Turn.TheVariants.{GoesOn, Ends}
 use Rattle.df_top.{specs.{Outside.{Turn}, Turning.{OnGoing}}, proofs.LineEnds.{live_on}}
 use Rattle.df_top.proofs.turns.serve_line.Goals as goal

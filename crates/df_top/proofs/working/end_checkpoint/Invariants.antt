@@ -1,6 +1,5 @@
 -- The steps so far were taken, and nothing has failed.
-use Rattle.std.proofs.Common.{◌≡◌}
-use Rattle.df_workload.specs.declared.state.Point.TheVariants.{Ending}
+use Rattle.{std.proofs.Common.{◌≡◌}, df_workload.specs.declared.state.Point.TheVariants.{Ending}}
 use Rattle.df_top.specs.Works.{CanGoOn, Works, steps_left}
 use Rattle.df_top.proofs.working.end_checkpoint.Given as goal
 

@@ -1,7 +1,5 @@
 -- The commands so far were made and answered, and nothing has failed.
-use Rattle.std.proofs.Common.{◌≡◌}
-use Rattle.df_workload.specs.Sound.{left}
-use Rattle.df_top.specs.Works.{CanGoOn, Works}
+use Rattle.{std.proofs.Common.{◌≡◌}, df_workload.specs.Sound.{left}, df_top.specs.Works.{CanGoOn, Works}}
 use Rattle.df_top.proofs.working.go_through.Given as goal
 
 abbrev pub invariant-loop-disk : goal.invariant-loop-disk

@@ -1,6 +1,5 @@
 -- The call is the one that the run asks for.
-use Rattle.std.proofs.Common.{ap, refl}
-use Rattle.df_model.specs.Commands.{Advance, Append, Begin, Command, Release, Reply, WriteBlock}
+use Rattle.{std.proofs.Common.{ap, refl}, df_model.specs.Commands.{Advance, Append, Begin, Command, Release, Reply, WriteBlock}}
 use Rattle.df_workload.specs.{Asking.{number_body}, Draw.{drawn_body}}
 use Rattle.df_workload.specs.declared.asked.Asked.TheVariants as asked
 use Rattle.df_top.{specs.Works.{HearsOf, StillRuns}, proofs.Runs.{as_asked, asks_so}}
@@ -23,7 +22,9 @@ returns-in-Some-Reply g c = record {
 pub returns-in-Some-Step : goal.returns-in-Some-Step
 returns-in-Some-Step g c = record {
   makes = as_asked (λ (d : Command). HearsOf d c.args.replica.now c.make_call-in-Some-Step.new.replica (g.D.Disk.told c.args.disk.now) (g.D.Disk.told c.make_call-in-Some-Step.new.disk) c.make_call-in-Some-Step.result) c.args.generator.now Advance Advance (asks_so c.args.generator.now c.in-Some-Step.field-0 asked.Step c.in-Some-Step.ensures.some c.in-Some-Step.field-0-is) refl c.make_call-in-Some-Step.ensures.makes;
-  runs = as_asked (λ (d : Command). StillRuns d c.args.replica.now c.make_call-in-Some-Step.new.replica c.make_call-in-Some-Step.result) c.args.generator.now Advance Advance (asks_so c.args.generator.now c.in-Some-Step.field-0 asked.Step c.in-Some-Step.ensures.some c.in-Some-Step.field-0-is) refl c.make_call-in-Some-Step.ensures.runs;
+  runs = as_asked (λ (d : Command). StillRuns d c.args.replica.now c.make_call-in-Some-Step.new.replica c.make_call-in-Some-Step.result)
+      c.args.generator.now Advance Advance (asks_so c.args.generator.now
+      c.in-Some-Step.field-0 asked.Step c.in-Some-Step.ensures.some c.in-Some-Step.field-0-is) refl c.make_call-in-Some-Step.ensures.runs;
   disk = c.make_call-in-Some-Step.ensures.disk;
 }
 

@@ -1,5 +1,4 @@
-use Rattle.std.proofs.Common.{◌≡◌, ◌≤◌, ◌+◌, ◌/◌}
-use Rattle.df_trailer.specs.{Rooms.{bits_in_words}, Text.{bits_of, ones}}
+use Rattle.{std.proofs.Common.{◌≡◌, ◌≤◌, ◌+◌, ◌/◌}, df_trailer.specs.{Rooms.{bits_in_words}, Text.{bits_of, ones}}}
 use Rattle.df_trailer.proofs.bitmap.count_set.Given as goal
 
 abbrev pub invariant-loop-place : goal.invariant-loop-place

@@ -1,5 +1,4 @@
-use Rattle.std.{proofs.Common.{◌≡◌, ℕ, ◌<◌, ◌≤◌, ◌+◌, ◌/◌}, specs.Int.{bit_at}}
-use Rattle.df_trailer.specs.Rooms.{bits_in_words}
+use Rattle.{std.{proofs.Common.{◌≡◌, ℕ, ◌<◌, ◌≤◌, ◌+◌, ◌/◌}, specs.Int.{bit_at}}, df_trailer.specs.Rooms.{bits_in_words}}
 use Rattle.df_trailer.proofs.bitmap.has_unused.Given as goal
 
 abbrev pub invariant-loop-place : goal.invariant-loop-place

@@ -1,5 +1,4 @@
-use Rattle.std.proofs.Common.{◌*◌, arith}
-use Rattle.df_trailer.proofs.Skipped.{referenced_few}
+use Rattle.{std.proofs.Common.{◌*◌, arith}, df_trailer.proofs.Skipped.{referenced_few}}
 use Rattle.df_trailer.proofs.groups.behind_groups.Goals as goal
 
 pub overflow_mul-at : goal.overflow_mul-at

@@ -1,5 +1,4 @@
-use Rattle.std.proofs.Common.{◌++◌}
-use Rattle.df_trailer.proofs.Stays.{refusal_is_fault, refusal_stays}
+use Rattle.{std.proofs.Common.{◌++◌}, df_trailer.proofs.Stays.{refusal_is_fault, refusal_stays}}
 use Rattle.df_trailer.proofs.meaning.refusals_stay.Goals as goal
 
 pub returns : goal.returns

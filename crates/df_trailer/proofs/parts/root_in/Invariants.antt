@@ -1,5 +1,4 @@
-use Rattle.std.proofs.Common.{◌≡◌, take, drop}
-use Rattle.arrayvec.specs.ArrayVec.{array_vec_len}
+use Rattle.{std.proofs.Common.{◌≡◌, take, drop}, arrayvec.specs.ArrayVec.{array_vec_len}}
 use Rattle.df_trailer.proofs.parts.root_in.Given as goal
 
 abbrev pub invariant-loop-place : goal.invariant-loop-place

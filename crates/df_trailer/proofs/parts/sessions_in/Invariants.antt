@@ -1,5 +1,4 @@
-use Rattle.std.proofs.Common.{◌≡◌, map}
-use Rattle.arrayvec.specs.ArrayVec.{array_vec_len}
+use Rattle.{std.proofs.Common.{◌≡◌, map}, arrayvec.specs.ArrayVec.{array_vec_len}}
 use Rattle.df_trailer.specs.{Rooms.{without_reply}, Text.{read_sessions}}
 use Rattle.df_trailer.proofs.parts.sessions_in.Given as goal
 

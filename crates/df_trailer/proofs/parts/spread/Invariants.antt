@@ -1,5 +1,4 @@
-use Rattle.std.proofs.Common.{◌+◌, ◌/◌}
-use Rattle.df_trailer.{specs.Rooms.{bits_in_words}, proofs.Spread.{IsSpread}}
+use Rattle.{std.proofs.Common.{◌+◌, ◌/◌}, df_trailer.{specs.Rooms.{bits_in_words}, proofs.Spread.{IsSpread}}}
 use Rattle.df_trailer.proofs.parts.spread.Given as goal
 
 abbrev pub invariant-loop-place : goal.invariant-loop-place

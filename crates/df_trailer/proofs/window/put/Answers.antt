@@ -1,5 +1,4 @@
-use Rattle.std.proofs.Common.{arith}
-use Rattle.df_trailer.proofs.Shown.{shown_more}
+use Rattle.{std.proofs.Common.{arith}, df_trailer.proofs.Shown.{shown_more}}
 use Rattle.df_trailer.proofs.window.put.Goals as goal
 
 pub returns-clause-shown : goal.returns-clause-shown

@@ -1,5 +1,4 @@
-use Rattle.std.proofs.Common.{◌≡◌, ◌/◌, ◌%◌, ◌^◌}
-use Rattle.df_trailer.specs.Writing.{captured_bits}
+use Rattle.{std.proofs.Common.{◌≡◌, ◌/◌, ◌%◌, ◌^◌}, df_trailer.specs.Writing.{captured_bits}}
 use Rattle.df_trailer.proofs.writer.bits_byte.Given as goal
 
 abbrev pub invariant-loop-bit : goal.invariant-loop-bit

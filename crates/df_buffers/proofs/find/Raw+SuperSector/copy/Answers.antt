@@ -1,5 +1,4 @@
-use Rattle.std.proofs.Common.{List, ℕ, length, ◌∙◌, ap}
-use Rattle.df_buffers.proofs.Probes.{copy_size}
+use Rattle.{std.proofs.Common.{List, ℕ, length, ◌∙◌, ap}, df_buffers.proofs.Probes.{copy_size}}
 use Rattle.df_buffers.proofs.find.Raw+SuperSector.copy.Goals as goal
 
 pub decode_own_copy-requires : goal.decode_own_copy-requires

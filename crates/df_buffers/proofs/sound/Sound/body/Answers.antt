@@ -1,5 +1,4 @@
-use Rattle.std.proofs.Common.{arith}
-use Rattle.df_buffers.proofs.Finds.{ends}
+use Rattle.{std.proofs.Common.{arith}, df_buffers.proofs.Finds.{ends}}
 use Rattle.df_buffers.proofs.sound.Sound.body.Goals as goal
 
 pub slice_bounds-result-end : goal.slice_bounds-result-end

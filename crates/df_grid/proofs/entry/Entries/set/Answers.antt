@@ -9,21 +9,17 @@ byte_bit true = refl
 byte_bit false = refl
 
 pub index_mut-requires : goal.index_mut-requires
-index_mut-requires c =
-    let s = c.self.inside in
+index_mut-requires c = let s = c.self.inside in
     let at = has_place s.checks.items s.marks.items c.args.self.now c.args.address c.self.invariant c.self.view_is c.requires in
     omega (arith, s.checks.ok.0, at)
 
 pub index_mut-requires-2 : goal.index_mut-requires-2
-index_mut-requires-2 c =
-    let s = c.self.inside in
+index_mut-requires-2 c = let s = c.self.inside in
     let at = has_place s.checks.items s.marks.items c.args.self.now c.args.address c.self.invariant c.self.view_is c.requires in
     omega (arith, s.marks.ok.0, at)
 
 pub returns : goal.returns
-returns c =
-    let s = c.self.inside in
-    let e = c.args.entry.now in
+returns c = let s = c.self.inside in let e = c.args.entry.now in
     let is : c.from.result + 2 * c.from-2.result + 4 * c.from-3.result + 8 * c.from-4.result + 16 * c.from-5.result ≡ mark_of e =
     omega (
       arith,
@@ -37,5 +33,4 @@ returns c =
       byte_bit e.written,
       byte_bit e.durable,
       byte_bit e.chained,
-    ) in
-    rw (← c.self.view_is, is) (set_entries s.checks.items s.marks.items (c.args.address - 1) c.args.entry.now c.self.invariant)
+    ) in rw (← c.self.view_is, is) (set_entries s.checks.items s.marks.items (c.args.address - 1) c.args.entry.now c.self.invariant)

@@ -1,22 +1,17 @@
 -- What was read into the room is what the machine reads.
-use Rattle.std.{proofs.Common.{◌≡◌, Some, refl, sym, ap, ◌∙◌, arith}, specs.Prelude.{Ok, Err}}
-use Rattle.df_format.specs.declared.kind.Kind.TheVariants.{Block}
-use Rattle.df_model.specs.Blocks.{sum_at}
-use Rattle.df_units.specs.Meaning.{block_of, number_of}
+use Rattle.{std.{proofs.Common.{◌≡◌, Some, refl, sym, ap, ◌∙◌, arith}, specs.Prelude.{Ok, Err}}, df_model.specs.Blocks.{sum_at}}
+use Rattle.{df_format.specs.declared.kind.Kind.TheVariants.{Block}, df_units.specs.Meaning.{block_of, number_of}}
 use Rattle.df_trailer.specs.Rooms.{number_in}
 use Rattle.df_grid.{specs.{Grid.{GridState, IsKnownBlock}, Reads.{ReadsBlock}}, proofs.Reading.{shows_block, shows_other_block, shows_valid}}
 use Rattle.df_grid.proofs.grid.Grid.show.Goals as goal
 
 pub load-requires-clause-place : goal.load-requires-clause-place
-load-requires-clause-place g c =
-    let s = c.self.inside in
-    let has = c.in-Some.ensures.inside in
+load-requires-clause-place g c = let s = c.self.inside in let has = c.in-Some.ensures.inside in
     rw c.known_at-identity.ensures.identity (has.0, omega (arith, has.1, c.self.invariant.size_is))
 
 pub returns-in-Some-2 : goal.returns-in-Some-2
-returns-in-Some-2 g c =
-    let s = c.self.inside in
-    let sum : sum_at c.args.address s.table.blocks.live ≡ Some (number_of c.in-Some.checksum) = sym c.live.ensures.checksum ∙ ap number_in c.in-Some.is in (
+returns-in-Some-2 g c = let s = c.self.inside in let sum : sum_at c.args.address s.table.blocks.live ≡ Some (number_of c.in-Some.checksum) =
+    sym c.live.ensures.checksum ∙ ap number_in c.in-Some.is in (
       (refl, (λ _. tt), c.self.view_is),
       record {
         after = tt;
@@ -30,9 +25,8 @@ returns-in-Some-2 g c =
     )
 
 pub returns-in-None : goal.returns-in-None
-returns-in-None g c =
-    let s = c.self.inside in
-    let sum : sum_at c.args.address s.table.blocks.live ≡ Some (number_of c.in-Some.checksum) = sym c.live.ensures.checksum ∙ ap number_in c.in-Some.is in (
+returns-in-None g c = let s = c.self.inside in let sum : sum_at c.args.address s.table.blocks.live ≡ Some (number_of c.in-Some.checksum) =
+    sym c.live.ensures.checksum ∙ ap number_in c.in-Some.is in (
       (refl, (λ _. tt), c.self.view_is),
       record {
         after = tt;

@@ -1,8 +1,6 @@
 -- It is the table's.
-use Rattle.std.{proofs.Common.{◌≡◌, ◌*◌}, specs.Prelude.{IfSome}}
-use Rattle.df_model.specs.Blocks.{sum_at}
+use Rattle.{std.{proofs.Common.{◌≡◌, ◌*◌}, specs.Prelude.{IfSome}}, df_model.specs.Blocks.{sum_at}, df_grid.specs.Grid.{GridState}}
 use Rattle.df_trailer.specs.Writing.{referenced_among}
-use Rattle.df_grid.specs.Grid.{GridState}
 use Rattle.df_grid.proofs.grid.GridCapturedBlocks.counted.Goals as goal
 
 pub returns-clause-count : goal.returns-clause-count

@@ -1,7 +1,6 @@
 -- Its entry was unmarked.
-use Rattle.std.proofs.{Common.{◌-◌, true, set, refl, ap, ◌∙◌, arith}, lemmas.List.{length-set}}
+use Rattle.{std.proofs.{Common.{◌-◌, true, set, refl, ap, ◌∙◌, arith}, lemmas.List.{length-set}}, df_units.specs.Meaning.{number_of}}
 use Rattle.df_model.specs.Blocks.{block_written, is_held_in}
-use Rattle.df_units.specs.Meaning.{number_of}
 use Rattle.df_grid.{specs.Table.{TableState, blocks_in}, proofs.{Groups.{counts_kept}, Keeping.{unheld_entry}, Moves.{live_blocks, live_kept}, Views.{viewed}}}
 use Rattle.df_grid.proofs.table.Table.put_live.Goals as goal
 

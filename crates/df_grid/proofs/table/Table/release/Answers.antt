@@ -15,30 +15,34 @@ returns-in_default-clause-blocks c = let s = c.self.inside in
     rw (← c.self.view_is) (not_live_state s.entries s.written.items s.left.items s.chain.items c.args.address none)
 
 pub returns-then-not-entry-clause-answer : goal.returns-then-not-entry-clause-answer
-returns-then-not-entry-clause-answer c = let s = c.self.inside in
-    let none = not_live s.entries c.args.address c.in-Some.entry (sym c.entry_in.ensures ∙ c.in-Some.is) (not-true c.in-Some.entry.live c.if-not-entry.true) in
+returns-then-not-entry-clause-answer c = let s = c.self.inside in let none = not_live
+    s.entries c.args.address c.in-Some.entry (sym c.entry_in.ensures ∙ c.in-Some.is) (not-true c.in-Some.entry.live c.if-not-entry.true) in
     sym (ap is_known (sym (ap (λ (v : TableState). sum_at c.args.address v.blocks.live) c.self.view_is) ∙ none))
 
 pub returns-then-not-entry-clause-blocks : goal.returns-then-not-entry-clause-blocks
-returns-then-not-entry-clause-blocks c = let s = c.self.inside in
-    let none = not_live s.entries c.args.address c.in-Some.entry (sym c.entry_in.ensures ∙ c.in-Some.is) (not-true c.in-Some.entry.live c.if-not-entry.true) in
+returns-then-not-entry-clause-blocks c = let s = c.self.inside in let none = not_live
+    s.entries c.args.address c.in-Some.entry (sym c.entry_in.ensures ∙ c.in-Some.is) (not-true c.in-Some.entry.live c.if-not-entry.true) in
     rw (← c.self.view_is) (not_live_state s.entries s.written.items s.left.items s.chain.items c.args.address none)
 
 pub replace-requires-clause-inside : goal.replace-requires-clause-inside
-replace-requires-clause-inside c = let s = c.self.inside in (entry_is s.entries c.args.address c.in-Some.entry (sym c.entry_in.ensures ∙ c.in-Some.is)).0
+replace-requires-clause-inside c = let s = c.self.inside in
+    (entry_is s.entries c.args.address c.in-Some.entry (sym c.entry_in.ensures ∙ c.in-Some.is)).0
 
 pub invariant_of-self : goal.invariant_of-self
 invariant_of-self c = let s = c.self.inside in
     let there = entry_is s.entries c.args.address c.in-Some.entry (sym c.entry_in.ensures ∙ c.in-Some.is) in
     rw (c.replace.ensures.entries, c.replace.ensures.free) (
-      released_kept s.entries s.free s.written.items s.left.items s.chain.items c.self.invariant.0 c.args.address c.in-Some.entry (sym c.entry_in.ensures ∙ c.in-Some.is) (not-false c.in-Some.entry.live c.if-not-entry.false),
-      counts_kept s.entries s.left.items s.counts.items c.self.invariant.1 (c.args.address - 1) _ c.in-Some.entry there.1 refl s.left.items (λ some. some),
+      released_kept s.entries s.free s.written.items s.left.items s.chain.items c.self.invariant.0
+          c.args.address c.in-Some.entry (sym c.entry_in.ensures ∙ c.in-Some.is) (not-false c.in-Some.entry.live c.if-not-entry.false),
+      counts_kept s.entries
+          s.left.items s.counts.items c.self.invariant.1 (c.args.address - 1) _ c.in-Some.entry there.1 refl s.left.items (λ some. some),
     )
 
 pub returns-clause-answer : goal.returns-clause-answer
 returns-clause-answer c = let s = c.self.inside in
-    is_live_there s.entries c.args.address c.in-Some.entry (sym c.entry_in.ensures ∙ c.in-Some.is) (not-false c.in-Some.entry.live c.if-not-entry.false) ∙ ap (λ (v : TableState). is_known (sum_at c.args.address v.blocks.live)) c.self.view_is
+    is_live_there s.entries c.args.address c.in-Some.entry (sym c.entry_in.ensures ∙ c.in-Some.is) (not-false
+    c.in-Some.entry.live c.if-not-entry.false) ∙ ap (λ (v : TableState). is_known (sum_at c.args.address v.blocks.live)) c.self.view_is
 
 pub returns-clause-blocks : goal.returns-clause-blocks
-returns-clause-blocks c = let s = c.self.inside in
-    rw (← c.self.view_is, c.replace.ensures.entries) (released_state s.entries s.free s.written.items s.left.items s.chain.items c.self.invariant.0 c.args.address c.in-Some.entry (sym c.entry_in.ensures ∙ c.in-Some.is))
+returns-clause-blocks c = let s = c.self.inside in rw (← c.self.view_is, c.replace.ensures.entries) (released_state s.entries s.free
+    s.written.items s.left.items s.chain.items c.self.invariant.0 c.args.address c.in-Some.entry (sym c.entry_in.ensures ∙ c.in-Some.is))

@@ -4,12 +4,10 @@ use Rattle.df_journal.{specs.{Scan.{Scan}, Seen.{IsOpOf}}, proofs.Ops.{op_of_slo
 use Rattle.df_journal.proofs.table.SlotTable.op_at.Goals as goal
 
 pub returns : goal.returns
-returns c =
-    let scan : Scan = c.args.self.now in
-    let same : length c.as_slice.result.now ≡ length scan.slots = ap length c.as_slice.ensures.value ∙ ap (λ (s : Scan). length s.slots) c.self.view_is in
+returns c = let scan : Scan = c.args.self.now in let same : length c.as_slice.result.now ≡ length scan.slots =
+    ap length c.as_slice.ensures.value ∙ ap (λ (s : Scan). length s.slots) c.self.view_is in
     let op : c.self.inside.start.op ≡ scan.start.op = ap (λ (s : Scan). s.start.op) c.self.view_is in
-    let slots : ℕ = length c.as_slice.result.now in
-    let first : ℕ = c.self.inside.start.op + 1 in
+    let slots : ℕ = length c.as_slice.result.now in let first : ℕ = c.self.inside.start.op + 1 in
     let o : ℕ = first + (c.from.result + slots - first % slots) % slots in
     let below : c.from.result < slots = omega (arith, same, c.requires, c.from.ensures) in
     let slot : IsOpOf slots c.self.inside.start.op c.args.slot o = subst (λ (k : ℕ). IsOpOf slots c.self.inside.start.op k o)

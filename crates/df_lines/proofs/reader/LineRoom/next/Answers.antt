@@ -3,9 +3,10 @@ use Rattle.df_lines.{specs.{Window.{FindsLine}, contracts.reader.LineRoom.{the_v
 use Rattle.df_lines.proofs.reader.LineRoom.next.Goals as goal
 
 pub returns-in-Line-clause-gives : goal.returns-in-Line-clause-gives
-returns-in-Line-clause-gives g c = rw (← c.self.view_is) (λ text tells.
-    (next_line g.L.LineKind.grammar (the_view c.self.inside) c.find.new.self c.take_line.new.window _ _ c.take_line.new.budget _ _ text _ c.take_line.result (omega arith)
-    (subst (FindsLine c.find.new.self) c.in-Line.is c.in_ok-length.ensures.found) c.in_ok-length.ensures.same_text c.in_ok-length.ensures.ended c.take_line.ensures.takes tells).0)
+returns-in-Line-clause-gives g c = rw (← c.self.view_is) (λ text tells. (next_line g.L.LineKind.grammar
+    (the_view c.self.inside) c.find.new.self c.take_line.new.window _ _ c.take_line.new.budget _ _ text _ c.take_line.result (omega arith)
+    (subst (FindsLine c.find.new.self) c.in-Line.is c.in_ok-length.ensures.found)
+    c.in_ok-length.ensures.same_text c.in_ok-length.ensures.ended c.take_line.ensures.takes tells).0)
 
 pub returns-in-TooLong-clause-gives : goal.returns-in-TooLong-clause-gives
 returns-in-TooLong-clause-gives g c = rw (← c.self.view_is) (λ text tells.
@@ -13,6 +14,7 @@ returns-in-TooLong-clause-gives g c = rw (← c.self.view_is) (λ text tells.
     (subst (FindsLine c.find.new.self) c.in-TooLong.is c.in_ok-length.ensures.found) (c.in_ok-length.ensures.same_text ∙ tells.is))
 
 pub returns-in-Line-clause-tells : goal.returns-in-Line-clause-tells
-returns-in-Line-clause-tells g c = rw (← c.self.view_is) (λ text tells.
-    (next_line g.L.LineKind.grammar (the_view c.self.inside) c.find.new.self c.take_line.new.window _ _ c.take_line.new.budget _ _ text _ c.take_line.result (omega arith)
-    (subst (FindsLine c.find.new.self) c.in-Line.is c.in_ok-length.ensures.found) c.in_ok-length.ensures.same_text c.in_ok-length.ensures.ended c.take_line.ensures.takes tells).1)
+returns-in-Line-clause-tells g c = rw (← c.self.view_is) (λ text tells. (next_line g.L.LineKind.grammar
+    (the_view c.self.inside) c.find.new.self c.take_line.new.window _ _ c.take_line.new.budget _ _ text _ c.take_line.result (omega arith)
+    (subst (FindsLine c.find.new.self) c.in-Line.is c.in_ok-length.ensures.found)
+    c.in_ok-length.ensures.same_text c.in_ok-length.ensures.ended c.take_line.ensures.takes tells).1)

@@ -1,6 +1,5 @@
 -- With no strike a sector shows what the log left.
-use Rattle.std.proofs.Common.{refl}
-use Rattle.df_memdisk.specs.Struck.{shown_after}
+use Rattle.{std.proofs.Common.{refl}, df_memdisk.specs.Struck.{shown_after}}
 use Rattle.df_memdisk.proofs.memory.MemoryDisk.new.Goals as goal
 
 pub returns-clause-blank : goal.returns-clause-blank

@@ -1,6 +1,5 @@
 -- The sector's bytes stand from its place in the write on.
-use Rattle.std.proofs.Common.{◌≡◌, ◌+◌, ◌-◌, ◌*◌, arith, refl, sym, ◌∙◌, true}
-use Rattle.df_base.specs.Image.{covers}
+use Rattle.{std.proofs.Common.{◌≡◌, ◌+◌, ◌-◌, ◌*◌, arith, refl, sym, ◌∙◌, true}, df_base.specs.Image.{covers}}
 use Rattle.df_memdisk.proofs.written.Written.bytes_for.Goals as goal
 
 pub returns-clause-bytes : goal.returns-clause-bytes

@@ -1,6 +1,5 @@
 -- A write of whole sectors has bytes for a sector exactly where it has a whole sector of them.
-use Rattle.std.proofs.Common.{◌/◌, ◌-◌, ap, ◌∙◌, nat_lt, ℕ, List, length}
-use Rattle.df_memdisk.proofs.Covering.{covers_behind, covers_before}
+use Rattle.{std.proofs.Common.{◌/◌, ◌-◌, ap, ◌∙◌, nat_lt, ℕ, List, length}, df_memdisk.proofs.Covering.{covers_behind, covers_before}}
 use Rattle.df_memdisk.proofs.written.Written.covers.Goals as goal
 
 pub returns-then-self-sector-clause-answer : goal.returns-then-self-sector-clause-answer

@@ -1,6 +1,5 @@
 -- The superblock's fields obey their rules.
-use Rattle.std.proofs.Common.{subst}
-use Rattle.df_opening.specs.Below.{IsUsable, State}
+use Rattle.{std.proofs.Common.{subst}, df_opening.specs.Below.{IsUsable, State}}
 use Rattle.df_replica.proofs.replica.Replica.fields.Goals as goal
 
 pub returns-clause-usable : goal.returns-clause-usable

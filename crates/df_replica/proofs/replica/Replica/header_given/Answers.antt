@@ -9,8 +9,7 @@ pub returns-clause-value : goal.returns-clause-value
 returns-clause-value c = search rules
 
 pub returns-clause-rules : goal.returns-clause-rules
-returns-clause-rules c =
-    let s : State = state_in c.self.inside.parts in
+returns-clause-rules c = let s : State = state_in c.self.inside.parts in
     let live : s.live ≡ true = ap (λ (x : State). x.live) c.self.view_is ∙ c.requires.live in
     let head_is = ap (λ (x : State). x.head) c.self.view_is in
     let value = returns-clause-value c ∙ sym (ap (λ (x : State). header_given x c.args.client c.args.request) c.self.view_is) in
@@ -24,7 +23,8 @@ returns-clause-rules c =
         request = c.requires.note.request;
         mark = search (rules, c.self.invariant.state.waiting);
         checkpoint = search (rules, c.self.invariant.state.sequence);
-        slot = small_slot (s.head + 1) s.file.layout.slots (omega (arith, s.file.layout.slots_within.0)) (omega (arith, s.file.layout.slots_within.1));
+        slot = small_slot
+            (s.head + 1) s.file.layout.slots (omega (arith, s.file.layout.slots_within.0)) (omega (arith, s.file.layout.slots_within.1));
       },
       omega (arith, c.requires.fits, c.self.inside.parts.file.layout.message_size_within.1),
     ))

@@ -1,6 +1,5 @@
 -- The sessions that were passed have their replies.
-use Rattle.std.proofs.Common.{◌-◌, length}
-use Rattle.df_replies.specs.Answers.{AnsweredTo}
+use Rattle.{std.proofs.Common.{◌-◌, length}, df_replies.specs.Answers.{AnsweredTo}}
 use Rattle.df_replies.proofs.table.ReplyTable.first_lacking.Given as goal
 
 abbrev pub invariant-loop-place : goal.invariant-loop-place

@@ -1,6 +1,5 @@
 -- The greatest of those that were passed.
-use Rattle.std.proofs.Common.{max}
-use Rattle.df_replies.specs.Counts.{IsGreatest}
+use Rattle.{std.proofs.Common.{max}, df_replies.specs.Counts.{IsGreatest}}
 use Rattle.df_replies.proofs.table.ReplyTable.replies.Given as goal
 
 abbrev pub invariant-loop-reply : goal.invariant-loop-reply

@@ -1,6 +1,5 @@
 -- Each turn adds a room to the free ones, and there is a place for it.
-use Rattle.std.{proofs.Common.{◌≤◌, ◌-◌, length}, specs.Prelude.{vec_capacity}}
-use Rattle.df_rooms.specs.Stagings.{AreFree}
+use Rattle.{std.{proofs.Common.{◌≤◌, ◌-◌, length}, specs.Prelude.{vec_capacity}}, df_rooms.specs.Stagings.{AreFree}}
 use Rattle.df_rooms.proofs.staging.Staging.reserve.Given as goal
 
 abbrev pub invariant-loop-free : goal.invariant-loop-free

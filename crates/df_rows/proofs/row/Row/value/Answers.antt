@@ -1,6 +1,5 @@
 -- The fields are those of the row.
-use Rattle.std.proofs.Common.{ap, subst, ◌∙◌}
-use Rattle.df_rows.specs.Rows.{Entry, IsEntry}
+use Rattle.{std.proofs.Common.{ap, subst, ◌∙◌}, df_rows.specs.Rows.{Entry, IsEntry}}
 use Rattle.df_rows.proofs.row.Row.value.Goals as goal
 
 pub returns : goal.returns

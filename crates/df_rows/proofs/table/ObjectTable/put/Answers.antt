@@ -4,9 +4,8 @@ use Rattle.df_rows.{specs.{Rows.{Entry}, Sorted.{AreRows}}, proofs.{Edited.{rows
 use Rattle.df_rows.proofs.table.ObjectTable.put.Goals as goal
 
 pub invariant_of-self-in-Err : goal.invariant_of-self-in-Err
-invariant_of-self-in-Err c =
-    let t = c.self.inside in
-    let gap = same_gap c.deref.result.now t.rows.items c.key.result c.args.row.0 c.in-Err.at c.deref.ensures.value c.key.ensures.key c.in-Err.ensures.absent in
+invariant_of-self-in-Err c = let t = c.self.inside in let gap = same_gap
+    c.deref.result.now t.rows.items c.key.result c.args.row.0 c.in-Err.at c.deref.ensures.value c.key.ensures.key c.in-Err.ensures.absent in
     let free = room_in_gap t.max _ t.rows.items c.args.self.now c.self.view_is c.self.invariant c.args.row.0 c.in-Err.at gap c.requires in
     let ok = c.insert.ensures.succeeds (omega (arith, t.rows.ok.0, free, c.self.invariant.reserved)) in
     let items = c.insert.ensures.items ∙ ap (λ b. cond b (insert t.rows.items c.in-Err.at c.args.row) t.rows.items) ok in
@@ -14,15 +13,13 @@ invariant_of-self-in-Err c =
     (rows_insert t.max _ t.rows.items c.self.invariant _ c.args.row c.in-Err.at c.insert.ensures.capacity free c.key.ensures.fits gap)
 
 pub returns-in-Ok : goal.returns-in-Ok
-returns-in-Ok c =
-    let t = c.self.inside in
-    put_at_place t.max _ t.rows.items c.args.self.now c.self.view_is c.self.invariant c.args.row c.in-Ok.at
-    (same_place c.deref.result.now t.rows.items c.key.result c.args.row.0 c.in-Ok.at c.deref.ensures.value c.key.ensures.key c.in-Ok.ensures.found)
+returns-in-Ok c = let t = c.self.inside in
+    put_at_place t.max _ t.rows.items c.args.self.now c.self.view_is c.self.invariant c.args.row c.in-Ok.at (same_place
+    c.deref.result.now t.rows.items c.key.result c.args.row.0 c.in-Ok.at c.deref.ensures.value c.key.ensures.key c.in-Ok.ensures.found)
 
 pub returns-in-Err : goal.returns-in-Err
-returns-in-Err c =
-    let t = c.self.inside in
-    let gap = same_gap c.deref.result.now t.rows.items c.key.result c.args.row.0 c.in-Err.at c.deref.ensures.value c.key.ensures.key c.in-Err.ensures.absent in
+returns-in-Err c = let t = c.self.inside in let gap = same_gap
+    c.deref.result.now t.rows.items c.key.result c.args.row.0 c.in-Err.at c.deref.ensures.value c.key.ensures.key c.in-Err.ensures.absent in
     let free = room_in_gap t.max _ t.rows.items c.args.self.now c.self.view_is c.self.invariant c.args.row.0 c.in-Err.at gap c.requires in
     let ok = c.insert.ensures.succeeds (omega (arith, t.rows.ok.0, free, c.self.invariant.reserved)) in
     let items = c.insert.ensures.items ∙ ap (λ b. cond b (insert t.rows.items c.in-Err.at c.args.row) t.rows.items) ok in

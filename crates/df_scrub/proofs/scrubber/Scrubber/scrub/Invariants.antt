@@ -1,6 +1,5 @@
 -- The tour is on its way, and nothing has failed.
-use Rattle.std.proofs.Common.{◌≡◌, length, vec_len, vec_capacity}
-use Rattle.df_scrub.{specs.Scrubber.{left_in}, proofs.Touring.{IsTouring}}
+use Rattle.{std.proofs.Common.{◌≡◌, length, vec_len, vec_capacity}, df_scrub.{specs.Scrubber.{left_in}, proofs.Touring.{IsTouring}}}
 use Rattle.df_scrub.proofs.scrubber.Scrubber.scrub.Given as goal
 
 abbrev pub invariant-loop-address : goal.invariant-loop-address

@@ -1,6 +1,5 @@
 -- Those that were passed are copied.
-use Rattle.std.proofs.Common.{◌≡◌, take}
-use Rattle.arrayvec.specs.ArrayVec.{array_vec_len}
+use Rattle.{std.proofs.Common.{◌≡◌, take}, arrayvec.specs.ArrayVec.{array_vec_len}}
 use Rattle.df_sessions.proofs.table.SessionTable.copied.Given as goal
 
 abbrev pub invariant-loop-session : goal.invariant-loop-session

@@ -4,21 +4,15 @@ use Rattle.df_sessions.{specs.{Table.{Table, requested}, Requests.{sessions_of}}
 use Rattle.df_sessions.proofs.table.SessionTable.store.Goals as goal
 
 pub invariant_of-self : goal.invariant_of-self
-invariant_of-self c =
-    let a = c.args in
-    let t = c.self.inside in
-    let read : c.deref.result.now ≡ t.sessions.items = c.deref.ensures.0 in
+invariant_of-self c = let a = c.args in let t = c.self.inside in let read : c.deref.result.now ≡ t.sessions.items = c.deref.ensures.0 in
     let put = rw read at c.put.ensures.items in
     reply_stays_table t.max a.place a.reply t.sessions.items c.put.new.sessions.items a.self.now c.self.view_is c.self.invariant
     (has_reply t.max a.place a.reply t.sessions.items c.put.new.sessions.items (requested 0 0 0) a.self.now c.self.view_is c.requires put)
 
 pub returns : goal.returns
-returns c =
-    let a = c.args in
-    let t = c.self.inside in
-    let read : c.deref.result.now ≡ t.sessions.items = c.deref.ensures.0 in
-    let put = rw read at c.put.ensures.items in
-    let has = has_reply t.max a.place a.reply t.sessions.items c.put.new.sessions.items (requested 0 0 0) a.self.now c.self.view_is c.requires put in
+returns c = let a = c.args in let t = c.self.inside in let read : c.deref.result.now ≡ t.sessions.items = c.deref.ensures.0 in
+    let put = rw read at c.put.ensures.items in let has =
+    has_reply t.max a.place a.reply t.sessions.items c.put.new.sessions.items (requested 0 0 0) a.self.now c.self.view_is c.requires put in
     record {
       sessions = has.sessions;
       places = ap (λ (table : Table). table.max) c.self.view_is;

@@ -1,6 +1,5 @@
 -- One free address at least is taken.
-use Rattle.std.proofs.Common.{◌≡◌, ℕ, ◌≤◌, List, [], ◌∷◌, length, take, refl, arith}
-use Rattle.df_grid.specs.Grid.{free_addresses}
+use Rattle.{std.proofs.Common.{◌≡◌, ℕ, ◌≤◌, List, [], ◌∷◌, length, take, refl, arith}, df_grid.specs.Grid.{free_addresses}}
 use Rattle.df_tests_grid.proofs.tests.block_examples.begin.Goals as goal
 
 some : (xs : List ℕ) → 1 ≤ length xs → take 1 xs ≡ [] → ⊥

@@ -1,10 +1,10 @@
 -- The last block of the trailer is there, so all are written.
-use Rattle.std.proofs.Common.{◌≡◌, ℕ, List, [], ◌∷◌, Some}
-use Rattle.df_format.specs.declared.reference.Reference.{Reference}
+use Rattle.{std.proofs.Common.{◌≡◌, ℕ, List, [], ◌∷◌, Some}, df_format.specs.declared.reference.Reference.{Reference}}
 use Rattle.df_grid.specs.Table.{last_trailer_block, pair_in}
 use Rattle.df_tests_grid.proofs.tests.block_examples.end.Goals as goal
 
-some_written : (r : Reference) (left : List ℕ) (written : List (ℕ × ℕ)) → pair_in (Some r) ≡ last_trailer_block left written → written ≡ [] → ⊥
+some_written : (r : Reference) (left : List ℕ) (written : List (ℕ × ℕ))
+    → pair_in (Some r) ≡ last_trailer_block left written → written ≡ [] → ⊥
 some_written r [] [] is none = absurd (cc)
 some_written r [] (x ∷ xs) is none = absurd (cc)
 some_written r (y ∷ ys) written is none = absurd (cc)

@@ -1,13 +1,14 @@
 -- Its two sectors may be written.
-use Rattle.std.proofs.Common.{arith}
-use Rattle.df_headers.proofs.Laws.{table_written}
+use Rattle.{std.proofs.Common.{arith}, df_headers.proofs.Laws.{table_written}}
 use Rattle.df_tests_zones.proofs.tests.tails.write_ring.Goals as goal
 
 pub write_sector-requires-clause-sealed : goal.write_sector-requires-clause-sealed
-write_sector-requires-clause-sealed g c = (table_written c.args.layout.now 7 0 c.args.table.now c.requires.table (omega (arith, c.requires.slots))).sixteen
+write_sector-requires-clause-sealed g c =
+    (table_written c.args.layout.now 7 0 c.args.table.now c.requires.table (omega (arith, c.requires.slots))).sixteen
 
 pub write_sector-requires-clause-sector : goal.write_sector-requires-clause-sector
 write_sector-requires-clause-sector g c = omega (arith, c.requires.slots, c.requires.table.count)
 
 pub write_sector-requires-2-clause-sealed : goal.write_sector-requires-2-clause-sealed
-write_sector-requires-2-clause-sealed g c = (table_written c.args.layout.now 7 1 c.args.table.now c.requires.table (omega (arith, c.requires.slots))).sixteen
+write_sector-requires-2-clause-sealed g c =
+    (table_written c.args.layout.now 7 1 c.args.table.now c.requires.table (omega (arith, c.requires.slots))).sixteen

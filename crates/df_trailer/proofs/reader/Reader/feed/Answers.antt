@@ -3,15 +3,10 @@ use Rattle.df_trailer.{specs.{declared.fault.Failing.{Failing}, Reading.{IsRestT
 use Rattle.df_trailer.proofs.reader.Reader.feed.Goals as goal
 
 fed : (c : goal.After-refused) → IsFed c.args.self.now c.take_rest.new.self c.args.piece.now c.take-head.result
-fed c =
-    let n : ℕ = c.take-head.result in
-    let piece : List ℕ = c.args.piece.now in
-    let m : ℕ = length piece - n in
+fed c = let n : ℕ = c.take-head.result in let piece : List ℕ = c.args.piece.now in let m : ℕ = length piece - n in
     let left : length (drop n piece) ≡ m = length-drop n piece in
-    let all : take m (drop n piece) ≡ drop n piece = take_all m (drop n piece) (omega arith) in
-    let r = c.take_rest.ensures.rest in
-    let rest : IsRestTaken c.args.self.now c.take_rest.new.self (take m (drop n piece)) = assumption in
-    record {
+    let all : take m (drop n piece) ≡ drop n piece = take_all m (drop n piece) (omega arith) in let r = c.take_rest.ensures.rest in
+    let rest : IsRestTaken c.args.self.now c.take_rest.new.self (take m (drop n piece)) = assumption in record {
       within = c.take-head.ensures.within;
       head = ap (λ f. f.head.items) c.take_rest.ensures.front ∙ c.take-head.ensures.bytes;
       fits = λ was. rw c.take_rest.ensures.front (c.take-head.ensures.fits was);
@@ -24,9 +19,9 @@ fed c =
     }
 
 pub returns-clause-kept : goal.returns-clause-kept
-returns-clause-kept c = λ layout op text read. read_more layout op text c.args.self.now c.take_rest.new.self c.args.piece.now c.take-head.result (fed c) read
+returns-clause-kept c =
+    λ layout op text read. read_more layout op text c.args.self.now c.take_rest.new.self c.args.piece.now c.take-head.result (fed c) read
 
 pub returns-clause-refusal : goal.returns-clause-refusal
-returns-clause-refusal c = λ layout op text read.
-    c.refused.ensures
-    ∙ ap (λ (o : Option Failing). answer (refusal_in o)) (fails_as_read layout op (text ++ c.args.piece.now) c.take_rest.new.self (returns-clause-kept c layout op text read))
+returns-clause-refusal c = λ layout op text read. c.refused.ensures ∙ ap (λ (o : Option Failing). answer (refusal_in o))
+    (fails_as_read layout op (text ++ c.args.piece.now) c.take_rest.new.self (returns-clause-kept c layout op text read))

@@ -6,6 +6,7 @@ pub returns-clause-fresh : goal.returns-clause-fresh
 returns-clause-fresh c = record {
   of_layout = refl;
   of_op = refl;
-  kept = nothing_kept _ c.new.result.head.items _ c.new.ensures (length_listed (byte_in_words c.args.parts.bits.items) ((c.args.layout.blocks + 7) / 8));
+  kept = nothing_kept
+      _ c.new.result.head.items _ c.new.ensures (length_listed (byte_in_words c.args.parts.bits.items) ((c.args.layout.blocks + 7) / 8));
   checks = λ i inside within. absurd (omega arith);
 }
