@@ -98,7 +98,8 @@ def plans(bench: Bench, ground: Ground, case: Case) -> dict:
     what = {
         "append": alone, "fed": [[decoded(len(line), 2 * case.size), *steps] for steps in alone],
         "bare append": [steps_of(calls) for calls in append],
-        "flush": [[*CLIENTS * unit(case.size), *steps_of(calls)] for calls in flush], "bare flush": [steps_of(calls) for calls in flush],
+        # The bodies were hashed as they were staged.
+        "flush": [[*CLIENTS * unit(0), *steps_of(calls)] for calls in flush], "bare flush": [steps_of(calls) for calls in flush],
     }
     made = {**dict.fromkeys(("append", "bare append"), lambda: b"\n"), **dict.fromkeys(("flush", "bare flush"), lambda: b"flush\n")}
     # Digits of equal bytes would be decoded faster: which comes next is then no surprise to the processor.
