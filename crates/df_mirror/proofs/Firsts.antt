@@ -2,7 +2,7 @@
 use Rattle.std.{proofs.{Common.{◌≡◌, ℕ, ◌+◌, ◌%◌, ◌<◌, List, refl, sym, ◌∙◌, ap, arith, inl, inr}, lemmas.Bool.{cases_order}, lemmas.Option.{same_Some}}, specs.Prelude.{slice_index}}
 use Rattle.df_format.specs.{declared.kind.Kind.{Kind}, declared.kind.Kind.TheVariants.{Block as AsBlock, Prepare as AsPrepare, Reply as AsReply, Reserved, Trailer as AsTrailer}}
 use Rattle.df_theory.{specs.{Opens.{AreKnown, named_by}, Shape.{Shape, slots}, Units.{BlockPlace, Content, Message, Place, PreparePlace, PrepareUnit, ReplyPlace, Units}}, proofs.Laws.{known_one}}
-use Rattle.df_mirror.{specs.Known.{ComesBefore, IsNamedPrepare, IsNext, IsReferencedBlock, IsShownAs}, proofs.{Chains.{one_wanted, shown_block}, Logs.{named_shown}, Ones.{one_trailer}}}
+use Rattle.df_mirror.{specs.Known.{ComesBefore, IsNamedPrepare, IsNext, IsReferencedBlock, IsShownAs, rank_of_kind}, proofs.{Chains.{one_wanted, shown_block}, Logs.{named_shown}, Ones.{one_trailer}}}
 
 -- one kind, one place and one checksum
 abbrev pub AreOne : (kind other : Kind) (place at : Place) (sum n : ℕ) → Type 0
@@ -68,22 +68,22 @@ module _ (sh : Shape) (image : Units) (c : Content) where
 
   -- ---- of any kind
 
+  -- of two kinds one comes before the other
+  apart : (kind other : Kind) (place at : Place) (sum n : ℕ) → Next kind place sum → Next other at n
+      → (rank_of_kind kind < rank_of_kind other → ComesBefore kind other place at)
+      → (rank_of_kind other < rank_of_kind kind → ComesBefore other kind at place) → rank_of_kind kind ≡ rank_of_kind other
+  apart kind other place at sum n one two before behind = elim (cases_order (rank_of_kind kind) (rank_of_kind other)) [
+    | inl same ↦ same
+    | inr (inl less) ↦ absurd (not_before kind other place at sum n one two (before less))
+    | inr (inr more) ↦ absurd (not_before other kind at place n sum two one (behind more))
+  ]
+
   pub one_next : (kind other : Kind) (place at : Place) (sum n : ℕ) → Next kind place sum → Next other at n → AreOne kind other place at sum n
   one_next AsTrailer AsTrailer place at sum n one two = trailers place at sum n one two
   one_next AsBlock AsBlock place at sum n one two = blocks place at sum n one two
   one_next AsPrepare AsPrepare place at sum n one two = prepares place at sum n one two
   one_next AsReply AsReply place at sum n one two = replies place at sum n one two
-  one_next AsTrailer AsBlock place at sum n one two = absurd (not_before AsTrailer AsBlock place at sum n one two (omega arith))
-  one_next AsTrailer AsPrepare place at sum n one two = absurd (not_before AsTrailer AsPrepare place at sum n one two (omega arith))
-  one_next AsTrailer AsReply place at sum n one two = absurd (not_before AsTrailer AsReply place at sum n one two (omega arith))
-  one_next AsBlock AsTrailer place at sum n one two = absurd (not_before AsTrailer AsBlock at place n sum two one (omega arith))
-  one_next AsBlock AsPrepare place at sum n one two = absurd (not_before AsBlock AsPrepare place at sum n one two (omega arith))
-  one_next AsBlock AsReply place at sum n one two = absurd (not_before AsBlock AsReply place at sum n one two (omega arith))
-  one_next AsPrepare AsTrailer place at sum n one two = absurd (not_before AsTrailer AsPrepare at place n sum two one (omega arith))
-  one_next AsPrepare AsBlock place at sum n one two = absurd (not_before AsBlock AsPrepare at place n sum two one (omega arith))
-  one_next AsPrepare AsReply place at sum n one two = absurd (not_before AsPrepare AsReply place at sum n one two (omega arith))
-  one_next AsReply AsTrailer place at sum n one two = absurd (not_before AsTrailer AsReply at place n sum two one (omega arith))
-  one_next AsReply AsBlock place at sum n one two = absurd (not_before AsBlock AsReply at place n sum two one (omega arith))
-  one_next AsReply AsPrepare place at sum n one two = absurd (not_before AsPrepare AsReply at place n sum two one (omega arith))
   one_next Reserved other place at sum n one two = absurd one.known
   one_next kind Reserved place at sum n one two = absurd two.known
+  one_next kind other place at sum n one two =
+      absurd (omega (arith, apart kind other place at sum n one two (λ less. less) (λ more. more)))
