@@ -1,5 +1,5 @@
 -- The causes of what is printed, of a file that isn't opened, and of a session.
-use Rattle.{std.proofs.Common.{◌≡◌, ℕ, Bool, List, [], ◌∷◌, Option, Some, None, refl, subst, Err}, df_base.specs.Causes.{IsBlamed, Rose}}
+use Rattle.{std.proofs.Common.{◌≡◌, ℕ, Bool, List, [], ◌∷◌, Option, Some, None, refl, subst}, df_base.specs.Causes.{Blamed, Rose}}
 use Rattle.{df_model.specs.{declared.errors.OpenError.{OpenError}, Faults.{is_open_fault}}, df_layout.specs.declared.damage.Mend.{Mend}}
 use Rattle.df_program.proofs.Laws.{AreApart, fault_causes, open_causes, refusal_ends, text_causes, text_ends}
 use Rattle.df_top.specs.{Outside.{Blames, HasCauses, Outside, PrintsLine, counts}, Refusing.{PrintsOpenError}, Reporting.{status_of}, Lines.{Turned, act_of}, Session.{Ended, EndsWith, SessionState}, declared.status.Status.{Status}, declared.status.Status.TheVariants.{Done, Refused, DiskFault, Memory, ReadFault, Words, WriteFault}}
@@ -43,19 +43,22 @@ module _ (disk disk_now source sink sink_now : ℕ) (old new : Option (List ℕ)
   failed_causes is rose blame = fault_causes
       DiskFault ReadFault WriteFault apart (counts disk source sink) (counts disk_now source sink_now) old new status refl blame is rose
 
-  -- a file isn't opened
-  pub refused_causes : (T : Type 0) (e : OpenError) → IsBlamed {T = T} is_open_fault disk disk_now (Err e)
-      → PrintsOpenError e old new status → Blames WriteFault sink sink_now status → Causes
-  refused_causes T e blamed prints blame = open_causes DiskFault ReadFault WriteFault apart
-      (counts disk source sink) (counts disk_now source sink_now) old new status refl blame T e Refused (λ no. cc) (λ no. cc) blamed prints
+-- ---- a file isn't opened
 
--- neither want of memory nor other words are answered of such a file
-pub refused_never : (e : OpenError) (old new : Option (List ℕ)) (status : Status)
-    → PrintsOpenError e old new status → (status ≡ Memory → ⊥) × (status ≡ Words → ⊥)
-refused_never e old new status prints = (
-  refusal_ends Refused DiskFault WriteFault Memory e old new status prints (λ no. cc) (λ no. cc) (λ no. cc),
-  refusal_ends Refused DiskFault WriteFault Words e old new status prints (λ no. cc) (λ no. cc) (λ no. cc),
-)
+module _ {e : OpenError} {old new : Option (List ℕ)} {status : Status} (prints : PrintsOpenError e old new status) where
+  -- what that blames
+  pub refused_causes : {disk disk_now sink sink_now : ℕ} (source : ℕ) → Blamed (is_open_fault e) disk disk_now
+      → Blames WriteFault sink sink_now status → HasCauses (counts disk source sink) (counts disk_now source sink_now) status
+  refused_causes {disk = disk} {disk_now = disk_now} {sink = sink} {sink_now = sink_now} source blamed blame =
+      open_causes DiskFault ReadFault WriteFault apart (counts disk source sink) (counts disk_now source sink_now) old new status refl blame ℕ
+      e Refused (λ no. cc) (λ no. cc) blamed prints
+
+  -- neither want of memory nor other words are answered of it
+  pub refused_never : (status ≡ Memory → ⊥) × (status ≡ Words → ⊥)
+  refused_never = (
+    refusal_ends Refused DiskFault WriteFault Memory e old new status prints (λ no. cc) (λ no. cc) (λ no. cc),
+    refusal_ends Refused DiskFault WriteFault Words e old new status prints (λ no. cc) (λ no. cc) (λ no. cc),
+  )
 
 -- nor at the end of a session
 

@@ -118,14 +118,14 @@ module _ (pace : Pace) (bound : ℕ) (old new : SessionState) (p : Piece)
 pub on_none : (pace : Pace) (bound : ℕ) (old new : SessionState) → new ≡ old → SessionGoesOn pace bound old new
 on_none pace bound old new same origin turns so_far = ([], rw (sym (append-nil turns)) at (rw (sym same) at so_far))
 
-pub on_more : (pace : Pace) (bound : ℕ) (old mid new : SessionState)
+pub on_more : {pace : Pace} {bound : ℕ} {old mid new : SessionState}
     → SessionGoesOn pace bound old mid → SessionGoesOn pace bound mid new → SessionGoesOn pace bound old new
-on_more pace bound old mid new one two origin turns so_far = let first = one origin turns so_far in
+on_more one two origin turns so_far = let first = one origin turns so_far in
     let second = two origin (turns ++ first.0) first.1 in (first.0 ++ second.0, rw (append_assoc turns first.0 second.0) at second.1)
 
-pub on_ends : (pace : Pace) (bound : ℕ) (old mid new : SessionState) (status : Status)
+pub on_ends : {pace : Pace} {bound : ℕ} {old mid new : SessionState} {status : Status}
     → SessionGoesOn pace bound old mid → EndsIn pace bound mid new status → EndsIn pace bound old new status
-on_ends pace bound old mid new status one two origin turns so_far = let first = one origin turns so_far in two origin (turns ++ first.0) first.1
+on_ends one two origin turns so_far = let first = one origin turns so_far in two origin (turns ++ first.0) first.1
 
 -- ---- the end
 

@@ -1,6 +1,6 @@
 -- Each turn goes on with one piece more, or ends the session.
-use Rattle.{std.proofs.Common.{◌∙◌, refl}, df_pace.specs.declared.pace.Pace.{Pace}}
-use Rattle.df_top.{specs.{Outside.{around}, Session.{SessionState, state}, Step.{EndsIn, SessionGoesOn}}, proofs.{Passed.{leaves_on}, Progress.{on_ends, on_more, on_none}}}
+use Rattle.std.proofs.Common.{◌∙◌, refl}
+use Rattle.df_top.{specs.{Outside.{around}, Session.{SessionState, state}}, proofs.{Passed.{leaves_on}, Progress.{on_ends, on_more, on_none}}}
 use Rattle.df_top.proofs.background.work.Goals as goal
 
 pub loop-piece-init : goal.loop-piece-init
@@ -16,12 +16,7 @@ loop-piece-init g c = record {
 pub loop-piece-preserved : goal.loop-piece-preserved
 loop-piece-preserved g c = let now = c.loop-piece in record {
   turns = λ left bound.
-      let old : SessionState = state (around (g.D.Disk.told c.args.disk.now) left (g.W.Sink.written c.args.sink.now)) c.args.session.now in
-      let mid : SessionState = state (around (g.D.Disk.told now.disk) left (g.W.Sink.written now.sink)) now.session in
-      let new : SessionState =
-      state (around (g.D.Disk.told c.do_next.new.disk) left (g.W.Sink.written c.do_next.new.sink)) c.do_next.new.session in
-      on_more c.args.session.now.pace
-      bound old mid new (now.invariant.turns left bound) (rw now.invariant.leaves.pace at (c.in-GoesOn.ensures.turns left bound));
+      on_more (now.invariant.turns left bound) (rw now.invariant.leaves.pace at (c.in-GoesOn.ensures.turns left bound));
   leaves = leaves_on now.invariant.leaves c.do_next.ensures.does.leaves;
   live = c.in-GoesOn.ensures.does.live;
   disk_faults = c.in-GoesOn.ensures.disk ∙ now.invariant.disk_faults;
@@ -30,12 +25,7 @@ loop-piece-preserved g c = let now = c.loop-piece in record {
 
 pub returns-in-Ends-clause-turns : goal.returns-in-Ends-clause-turns
 returns-in-Ends-clause-turns g c = λ left bound. let now = c.loop-piece in
-    let old : SessionState = state (around (g.D.Disk.told c.args.disk.now) left (g.W.Sink.written c.args.sink.now)) c.args.session.now in
-    let mid : SessionState = state (around (g.D.Disk.told now.disk) left (g.W.Sink.written now.sink)) now.session in
-    let new : SessionState =
-    state (around (g.D.Disk.told c.do_next.new.disk) left (g.W.Sink.written c.do_next.new.sink)) c.do_next.new.session in
-    on_ends c.args.session.now.pace bound
-    old mid new c.in-Ends.status (now.invariant.turns left bound) (rw now.invariant.leaves.pace at (c.in-Ends.ensures.turns left bound))
+    on_ends (now.invariant.turns left bound) (rw now.invariant.leaves.pace at (c.in-Ends.ensures.turns left bound))
 
 pub returns-in-Ends-clause-leaves : goal.returns-in-Ends-clause-leaves
 returns-in-Ends-clause-leaves g c = leaves_on c.loop-piece.invariant.leaves c.do_next.ensures.does.leaves

@@ -1,5 +1,5 @@
 -- The survey answers of the file that the disk shows, and adds no event but a sync.
-use Rattle.{std.proofs.Common.{inr, refl}, df_session.specs.Below.{State}}
+use Rattle.std.proofs.Common.{inr, refl}
 use Rattle.df_top.{specs.{Outside.{Outside}, Reporting.{report_of, status_of}}, proofs.{Causes.{calm_report, line_causes, never_printed, refused_causes, refused_never}, Reported.{inspects, not_surveyed, syncs_part}}}
 use Rattle.df_top.proofs.reporting.inspect_file.Goals as goal
 
@@ -29,15 +29,11 @@ returns-in-Ok-clause-causes g c = λ source.
     (calm_report c.in-Ok.surveyed.mends) c.in-Ok.ensures.cause c.report.ensures.prints c.report.ensures.sink
 
 pub returns-clause-causes : goal.returns-clause-causes
-returns-clause-causes g c = λ source.
-    refused_causes (g.D.Disk.faults c.args.disk.now) (g.D.Disk.faults c.survey.new.disk) source (g.W.Sink.faults c.args.sink.now)
-    (g.W.Sink.faults c.refuse_file.new.sink) (g.W.Sink.written c.args.sink.now) (g.W.Sink.written c.refuse_file.new.sink)
-    c.refuse_file.result State c.in-Err.error c.in-Err.ensures.cause c.refuse_file.ensures.prints c.refuse_file.ensures.sink
+returns-clause-causes g c = λ source. refused_causes c.refuse_file.ensures.prints source c.in-Err.ensures.cause c.refuse_file.ensures.sink
 
 pub returns-in-Ok-clause-ends : goal.returns-in-Ok-clause-ends
 returns-in-Ok-clause-ends g c = never_printed (report_of c.in-Ok.surveyed) (status_of c.in-Ok.surveyed.mends) (g.W.Sink.written
     c.args.sink.now) (g.W.Sink.written c.report.new.sink) c.report.result (calm_report c.in-Ok.surveyed.mends) c.report.ensures.prints
 
 pub returns-clause-ends : goal.returns-clause-ends
-returns-clause-ends g c = refused_never c.in-Err.error
-    (g.W.Sink.written c.args.sink.now) (g.W.Sink.written c.refuse_file.new.sink) c.refuse_file.result c.refuse_file.ensures.prints
+returns-clause-ends g c = refused_never c.refuse_file.ensures.prints

@@ -1,7 +1,6 @@
 -- The open answers of the file that the disk shows, and the tour leaves what it keeps.
-use Rattle.{std.{proofs.Common.{ℕ, inr, refl, sym}, specs.Prelude.{Option}}, df_disk.specs.Told.{Told}, df_program.proofs.Laws.{no_blame}}
-use Rattle.df_session.specs.{Below.{State}, Found.{FoundFile}}
-use Rattle.df_top.{specs.{Outside.{Blames, Outside}, Scrubs.{ScrubsFile}, declared.mode.Mode.TheVariants.{Scrub}, declared.status.Status.TheVariants.{DiskFault, Memory, ReadFault, Words}}, proofs.{Causes.{refused_causes, refused_never}, Reported.{scrubs}, Served.{not_opened}, Tours.{never_so}}}
+use Rattle.{std.proofs.Common.{inr, refl, sym}, df_program.proofs.Laws.{no_blame}}
+use Rattle.df_top.{specs.{Outside.{Outside}, declared.mode.Mode.TheVariants.{Scrub}, declared.status.Status.TheVariants.{Memory, ReadFault, Words}}, proofs.{Causes.{refused_causes, refused_never}, Reported.{scrubs}, Served.{not_opened}, Tours.{never_so}}}
 use Rattle.df_top.proofs.scrubbing.scrub_file.Goals as goal
 
 pub returns-in-Ok-clause-scrubs : goal.returns-in-Ok-clause-scrubs
@@ -21,18 +20,14 @@ returns-in-Ok-clause-causes g c = λ source. record {
 }
 
 pub returns-clause-causes : goal.returns-clause-causes
-returns-clause-causes g c = λ source.
-    refused_causes (g.D.Disk.faults c.args.disk.now) (g.D.Disk.faults c.open.new.disk) source (g.W.Sink.faults c.args.sink.now)
-    (g.W.Sink.faults c.refuse_file.new.sink) (g.W.Sink.written c.args.sink.now) (g.W.Sink.written c.refuse_file.new.sink)
-    c.refuse_file.result State c.in-Err.error c.in-Err.ensures.cause c.refuse_file.ensures.prints c.refuse_file.ensures.sink
+returns-clause-causes g c = λ source. refused_causes c.refuse_file.ensures.prints source c.in-Err.ensures.cause c.refuse_file.ensures.sink
 
 pub returns-in-Ok-clause-ends : goal.returns-in-Ok-clause-ends
 returns-in-Ok-clause-ends g c =
     (never_so c.tour.result Memory c.tour.ensures.ends (λ no. no), never_so c.tour.result Words c.tour.ensures.ends (λ no. no))
 
 pub returns-clause-ends : goal.returns-clause-ends
-returns-clause-ends g c = refused_never c.in-Err.error
-    (g.W.Sink.written c.args.sink.now) (g.W.Sink.written c.refuse_file.new.sink) c.refuse_file.result c.refuse_file.ensures.prints
+returns-clause-ends g c = refused_never c.refuse_file.ensures.prints
 
 pub returns-clause-scrubs : goal.returns-clause-scrubs
 returns-clause-scrubs g c = λ left t told whole.

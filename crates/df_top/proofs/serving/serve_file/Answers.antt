@@ -1,7 +1,7 @@
 -- The file is opened and served, or it isn't.
-use Rattle.{std.proofs.Common.{◌≡◌, ℕ, true, false, refl, sym, ap, ◌∙◌, arith}, df_lines.specs.Text.{Reading}}
-use Rattle.{df_session.specs.Below.{State}, df_model.specs.declared.answers.Summary.{Summary}, df_pace.specs.Beats.{started}}
-use Rattle.df_top.{specs.{Outside.{Blames, Outside, seen}, declared.session.Session.{Session}, declared.status.Status.TheVariants.{DiskFault}, Session.{state}}, proofs.{Causes.{ended_never, refused_causes, refused_never}, Served.{executed, from_start, not_executed, serves}}}
+use Rattle.{std.proofs.Common.{◌≡◌, true, false, refl, sym, ap, ◌∙◌, arith}, df_lines.specs.Text.{Reading}}
+use Rattle.{df_model.specs.declared.answers.Summary.{Summary}, df_pace.specs.Beats.{started}}
+use Rattle.df_top.{specs.{Outside.{Outside, seen}, declared.session.Session.{Session}, Session.{state}}, proofs.{Causes.{ended_never, refused_causes, refused_never}, Served.{executed, from_start, not_executed, serves}}}
 use Rattle.df_top.proofs.serving.serve_file.Goals as goal
 
 -- a reader that has read nothing hasn't ended, and has its whole budget
@@ -33,22 +33,14 @@ returns-in-Err-clause-serves g c = λ mode executes t told whole.
     (c.in-Err.ensures.stopped t told) c.refuse_file.ensures.prints
 
 pub returns-in-Err-clause-causes : goal.returns-in-Err-clause-causes
-returns-in-Err-clause-causes g c =
-    refused_causes (g.D.Disk.faults c.args.outside.disk.now)
-    (g.D.Disk.faults c.open.new.disk) (g.S.Source.faults c.args.outside.source.now) (g.W.Sink.faults c.args.outside.sink.now)
-    (g.W.Sink.faults c.refuse_file.new.sink) (g.W.Sink.written c.args.outside.sink.now) (g.W.Sink.written c.refuse_file.new.sink)
-    c.refuse_file.result State c.in-Err.error c.in-Err.ensures.cause c.refuse_file.ensures.prints c.refuse_file.ensures.sink
+returns-in-Err-clause-causes g c = refused_causes c.refuse_file.ensures.prints (g.S.Source.faults c.args.outside.source.now)
+    c.in-Err.ensures.cause c.refuse_file.ensures.sink
 
 pub returns-in-Ok-clause-causes : goal.returns-in-Ok-clause-causes
-returns-in-Ok-clause-causes g c = record {
-  disk = rw c.in-Ok.ensures.cause at c.serve_script.ensures.causes.disk;
-  source = c.serve_script.ensures.causes.source;
-  sink = c.serve_script.ensures.causes.sink;
-}
+returns-in-Ok-clause-causes g c = rw c.in-Ok.ensures.cause at c.serve_script.ensures.causes
 
 pub returns-in-Ok-clause-ends : goal.returns-in-Ok-clause-ends
 returns-in-Ok-clause-ends g c = ended_never _ _ _ _ c.serve_script.result c.serve_script.ensures.session
 
 pub returns-in-Err-clause-ends : goal.returns-in-Err-clause-ends
-returns-in-Err-clause-ends g c = refused_never c.in-Err.error
-    (g.W.Sink.written c.args.outside.sink.now) (g.W.Sink.written c.refuse_file.new.sink) c.refuse_file.result c.refuse_file.ensures.prints
+returns-in-Err-clause-ends g c = refused_never c.refuse_file.ensures.prints

@@ -1,5 +1,5 @@
 -- The upgrade answers of the file that the disk shows.
-use Rattle.{std.proofs.Common.{inr, ℕ, refl}, df_inspect.specs.Opening.{upgraded_text}}
+use Rattle.{std.proofs.Common.{inr, refl}, df_inspect.specs.Opening.{upgraded_text}}
 use Rattle.df_top.{specs.{Outside.{Outside}, declared.status.Status.TheVariants.{Done}}, proofs.{Causes.{calm_done, line_causes, never_printed, refused_causes, refused_never}, Upgrades.{not_upgraded}}}
 use Rattle.df_top.proofs.upgrading.upgrade_there.Goals as goal
 
@@ -22,15 +22,11 @@ returns-in-Ok-clause-causes g c = λ source.
     (upgraded_text c.in-Ok.upgraded.sequence) Done calm_done c.in-Ok.ensures.cause c.tell_upgraded.ensures.line c.tell_upgraded.ensures.sink
 
 pub returns-clause-causes : goal.returns-clause-causes
-returns-clause-causes g c = λ source.
-    refused_causes (g.D.Disk.faults c.args.disk.now) (g.D.Disk.faults c.upgrade_file.new.disk) source (g.W.Sink.faults c.args.sink.now)
-    (g.W.Sink.faults c.refuse_file.new.sink) (g.W.Sink.written c.args.sink.now) (g.W.Sink.written c.refuse_file.new.sink)
-    c.refuse_file.result ℕ c.in-Err.error c.in-Err.ensures.cause c.refuse_file.ensures.prints c.refuse_file.ensures.sink
+returns-clause-causes g c = λ source. refused_causes c.refuse_file.ensures.prints source c.in-Err.ensures.cause c.refuse_file.ensures.sink
 
 pub returns-in-Ok-clause-ends : goal.returns-in-Ok-clause-ends
 returns-in-Ok-clause-ends g c = never_printed (upgraded_text c.in-Ok.upgraded.sequence) Done (g.W.Sink.written c.args.sink.now)
     (g.W.Sink.written c.tell_upgraded.new.sink) c.tell_upgraded.result calm_done c.tell_upgraded.ensures.line
 
 pub returns-clause-ends : goal.returns-clause-ends
-returns-clause-ends g c = refused_never c.in-Err.error
-    (g.W.Sink.written c.args.sink.now) (g.W.Sink.written c.refuse_file.new.sink) c.refuse_file.result c.refuse_file.ensures.prints
+returns-clause-ends g c = refused_never c.refuse_file.ensures.prints

@@ -1,9 +1,8 @@
 -- The open answers of the file that the disk shows, and the run is carried out on what it found.
-use Rattle.{std.proofs.Common.{◌≡◌, ℕ, true, false, inr, refl, sym, ◌∙◌, ap}, df_base.specs.Causes.{IsBlamed}}
+use Rattle.std.proofs.Common.{◌≡◌, ℕ, true, false, inr, refl, sym, ◌∙◌, ap}
 use Rattle.{df_layout.specs.declared.layout.Layout.{Layout}, df_model.specs.declared.answers.Summary.{Summary}}
-use Rattle.df_session.specs.{Below.{State}, Endings.{is_disk_fault}}
 use Rattle.df_workload.specs.{Rounds.{start}, declared.state.State.{State as Run}}
-use Rattle.df_top.{specs.{Outside.{Outside}, Works.{Comes}, declared.mode.Mode.TheVariants.{Workload}}, proofs.{Causes.{refused_causes, refused_never}, Runs.{ends_run}, Served.{not_opened}, WorksOn.{run_causes, run_never, works_through}}}
+use Rattle.df_top.{specs.{Outside.{Outside}, declared.mode.Mode.TheVariants.{Workload}}, proofs.{Causes.{refused_causes, refused_never}, Runs.{ends_run}, Served.{not_opened}, WorksOn.{run_causes, run_never, works_through}}}
 use Rattle.df_top.proofs.working.workload_file.Goals as goal
 
 pub work-worked-requires : goal.work-worked-requires
@@ -43,15 +42,11 @@ returns-in-Ok-clause-causes g c = λ source.
     c.tell.result c.tell.ensures.prints (rw c.in-Ok.ensures.cause at c.work-worked.ensures.disk) c.tell.ensures.sink
 
 pub returns-clause-causes : goal.returns-clause-causes
-returns-clause-causes g c = λ source.
-    refused_causes (g.D.Disk.faults c.args.disk.now) (g.D.Disk.faults c.open.new.disk) source (g.W.Sink.faults c.args.sink.now)
-    (g.W.Sink.faults c.refuse_file.new.sink) (g.W.Sink.written c.args.sink.now) (g.W.Sink.written c.refuse_file.new.sink)
-    c.refuse_file.result State c.in-Err.error c.in-Err.ensures.cause c.refuse_file.ensures.prints c.refuse_file.ensures.sink
+returns-clause-causes g c = λ source. refused_causes c.refuse_file.ensures.prints source c.in-Err.ensures.cause c.refuse_file.ensures.sink
 
 pub returns-in-Ok-clause-ends : goal.returns-in-Ok-clause-ends
 returns-in-Ok-clause-ends g c = run_never c.work-worked.new.run.generator c.work-worked.new.run.replica
     c.work-worked.result (g.W.Sink.written c.args.sink.now) (g.W.Sink.written c.tell.new.sink) c.tell.result c.tell.ensures.prints
 
 pub returns-clause-ends : goal.returns-clause-ends
-returns-clause-ends g c = refused_never c.in-Err.error
-    (g.W.Sink.written c.args.sink.now) (g.W.Sink.written c.refuse_file.new.sink) c.refuse_file.result c.refuse_file.ensures.prints
+returns-clause-ends g c = refused_never c.refuse_file.ensures.prints
