@@ -32,27 +32,13 @@ fewer s t is = less s t s.running is
 -- it still runs, and nothing else has changed
 pub record IsUnder (r : RunningState) (s t : Replica) : Type 0 where
   pub running : OfRunning t.running (λ q. q.op ≡ r.op)
-  pub file : t.file ≡ s.file
-  pub head : t.head ≡ s.head
-  pub replies : t.replies ≡ s.replies
-  pub staged : t.staged ≡ s.staged
-  pub table : t.table ≡ s.table
+  pub same : t ≡ record s { blocks = t.blocks; running = t.running }
   pub live : t.blocks.live ≡ s.blocks.live
   pub captured : t.blocks.captured ≡ s.blocks.captured
   pub chain : length t.blocks.written + length t.blocks.left ≡ length s.blocks.written + length s.blocks.left
 
 pub under_start : (r : RunningState) (s : Replica) → s.running ≡ Some r → IsUnder r s s
-under_start r s is = record {
-  running = rw is refl;
-  file = refl;
-  head = refl;
-  replies = refl;
-  staged = refl;
-  table = refl;
-  live = refl;
-  captured = refl;
-  chain = refl;
-}
+under_start r s is = record { running = rw is refl; same = refl; live = refl; captured = refl; chain = refl }
 
 -- a block more of the trailer
 one_written : (t : Replica) (q : RunningState) (left : List ℕ) → left ≢ []
@@ -68,11 +54,7 @@ module _ (r : RunningState) (s t u : Replica) (is : IsUnder r s t) where
   more_under (Some q) under step = let one = one_written t q t.blocks.left step.0 in
       subst (λ (v : Replica). IsUnder r s v) (sym step.1) (record {
         running = under;
-        file = is.file;
-        head = is.head;
-        replies = is.replies;
-        staged = is.staged;
-        table = is.table;
+        same = ap (λ (v : Replica). record v { blocks = (advanced t q).blocks; running = (advanced t q).running }) is.same;
         live = one.0 ∙ is.live;
         captured = one.1 ∙ is.captured;
         chain = one.2 ∙ is.chain;
@@ -88,12 +70,12 @@ module _ (r : RunningState) (s t u : Replica) (is : IsUnder r s t) where
     idle = refl;
     op = under;
     chain = omega (arith, is.chain, ap (λ (l : List ℕ). length l) step.0);
-    file = is.file;
-    head = is.head;
-    replies = is.replies;
-    staged = is.staged;
+    file = ap (λ (v : Replica). v.file) is.same;
+    head = ap (λ (v : Replica). v.head) is.same;
+    replies = ap (λ (v : Replica). v.replies) is.same;
+    staged = ap (λ (v : Replica). v.staged) is.same;
     durable = is.captured;
-    table = is.table;
+    table = ap (λ (v : Replica). v.table) is.same;
     live = is.live;
   })
 

@@ -33,11 +33,7 @@ returns-in-Ok-clause-serves g c = λ w begun t is. let layout = c.args.opening.l
     }
 
 pub returns-in-Ok-clause-causes : goal.returns-in-Ok-clause-causes
-returns-in-Ok-clause-causes g c = record {
-  disk = rw c.in-Ok.ensures.disk at c.serve_lines.ensures.causes.disk;
-  source = c.serve_lines.ensures.causes.source;
-  sink = c.serve_lines.ensures.causes.sink;
-}
+returns-in-Ok-clause-causes g c = rw c.in-Ok.ensures.disk at c.serve_lines.ensures.causes
 
 -- ---- it isn't
 

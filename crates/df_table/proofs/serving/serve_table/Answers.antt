@@ -30,11 +30,7 @@ returns-in-Ok-clause-serves g c = λ t told whole. let old : Outside = seen g.D.
     s mended whole c.in-Ok.ensures.live (sym of) over agrees.first agrees.agrees before old new c.serve_opened.result refl refl refl opens)
 
 pub returns-in-Ok-clause-causes : goal.returns-in-Ok-clause-causes
-returns-in-Ok-clause-causes g c = record {
-  disk = rw c.in-Ok.ensures.cause at c.serve_opened.ensures.causes.disk;
-  source = c.serve_opened.ensures.causes.source;
-  sink = c.serve_opened.ensures.causes.sink;
-}
+returns-in-Ok-clause-causes g c = rw c.in-Ok.ensures.cause at c.serve_opened.ensures.causes
 
 -- ---- it isn't
 
