@@ -4,8 +4,9 @@
     python3 model/transcripts.py FILE.. [--bugs]
 
 Prints for each file how many cases and answers it has, or each line that the model doesn't confirm and what came; ends with status 1 then.
-With `--bugs` it says of each of the model's own bugs which file finds it first, if one does. With BUG in the environment the model has that
-bug. See docs/evidence/MODEL-TRIES.md.
+With `--bugs` it says of each of the model's own bugs which file finds it first, if one does. A bug is tried on the cases in which the model
+without a bug asks whether it has this one: the others go on as without it. With BUG in the environment the model has that bug. See
+docs/evidence/MODEL-TRIES.md.
 """
 
 import sys
@@ -15,7 +16,7 @@ sys.dont_write_bytecode = True
 import argparse
 import os
 import re
-from typing import Optional
+from typing import NamedTuple, Optional
 
 from served import PROGRAMS, Memory, serve
 from tries import bugs
@@ -59,9 +60,8 @@ class Player:
         self.title, self.disks, self.run = "", {}, None
         self.source = self.sink = frozenset()
 
-    def play(self, text: str, first: bool = False) -> None:
+    def play(self, lines, first: bool = False) -> None:
         """Plays all lines; or up to the first failure alone."""
-        lines = Lines(text)
         at = 1
         while True:
             try:
@@ -227,20 +227,17 @@ def shortened(text: bytes) -> str:
     return "\n".join(line if len(line) <= LONGEST else f"{line[:LONGEST]} .. ({len(line)} letters)" for line in lines)
 
 
-def played(path: str, first: bool = False) -> Player:
-    """What comes of a file."""
+def text_of(path: str) -> str:
     with open(path, encoding="utf-8") as file:
-        text = file.read()
-    player = Player()
-    player.play(text, first)
-    return player
+        return file.read()
 
 
 def told(paths: list) -> int:
     """Plays each file, and tells what came of it."""
     wrong = 0
     for path in paths:
-        player = played(path)
+        player = Player()
+        player.play(Lines(text_of(path)))
         for failure in player.failures:
             print(f"{os.path.basename(path)}, {failure}")
         print(f"{os.path.basename(path)}: {player.cases} cases, {player.answers} answers", flush=True)
@@ -248,22 +245,50 @@ def told(paths: list) -> int:
     return 1 if wrong else 0
 
 
-def told_bugs(paths: list) -> int:
-    """Tells of each bug of the model which file finds it first, and where, or that none does."""
-    for bugs.BUG in bugs.ALL:
-        where = next((where for where in map(found, paths) if where), "not found")
-        print(f"{bugs.BUG}: {where}", flush=True)
-    return 0
+class Case(NamedTuple):
+    """A case: its file, its lines with definitions unfolded, and the bugs that the model is asked about in it."""
+
+    name: str
+    lines: list
+    asked: frozenset
 
 
-def found(path: str) -> str:
-    """Where a file finds the bug that the model has; nothing where it doesn't."""
+def cases_of(path: str) -> list:
+    """The cases of a file, each played once without a bug."""
+    parts: list = []
+    for line in Lines(text_of(path)):
+        if line.text.startswith("== "):
+            parts.append([])
+        parts[-1].append(line)
+    cases = []
+    for lines in parts:
+        bugs.ASKED.clear()
+        if failed(lines):
+            raise SystemExit(f"{path}: the model without a bug doesn't confirm it")
+        cases.append(Case(os.path.basename(path), lines, frozenset(bugs.ASKED)))
+    return cases
+
+
+def failed(lines: list) -> str:
+    """The first failure of these lines; nothing where there is none."""
+    player = Player()
     try:
-        failures = played(path, True).failures
+        player.play(lines, True)
     except Exception as error:
         # A bug may also break the model.
-        failures = [type(error).__name__]
-    return f"{os.path.basename(path)}, {failures[0].splitlines()[0]}" if failures else ""
+        return type(error).__name__
+    return player.failures[0].splitlines()[0] if player.failures else ""
+
+
+def told_bugs(paths: list) -> int:
+    """Tells of each bug of the model which file finds it first, and where, or that none does."""
+    bugs.BUG = ""
+    cases = [case for path in paths for case in cases_of(path)]
+    for bugs.BUG in bugs.ALL:
+        asked = [case for case in cases if bugs.BUG in case.asked]
+        where = next((f"{case.name}, {why}" for case in asked if (why := failed(case.lines))), "not found")
+        print(f"{bugs.BUG}: {where} (asked in {len(asked)} cases)", flush=True)
+    return 0
 
 
 def main() -> int:
