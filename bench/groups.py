@@ -1,10 +1,10 @@
 """What a group costs by the clock: a `flush` of eight, and an append, each beside a yardstick that makes its device calls and its hashes and
 nothing else; and up to eight requests in one group beside as many appends. All in turn, each in a session of its own over a file that was
-written round."""
+written round. The yardstick has the bodies as the program has them: each in a room of its own, where a line before has put it."""
 
 import statistics
 from contextlib import ExitStack
-from typing import NamedTuple
+from typing import Callable, NamedTuple
 
 from asked import Asked, Planned
 from calls import lines_of
@@ -12,7 +12,7 @@ from clients import CLIENTS, Requests
 from common import Bench, Ground, copy, digits, sectors_of, show, with_quartiles
 from tries.binary import Binary, expect
 from tries.form import Layout
-from yardstick import SYNC, answered, decoded, plan, unit, waited, write
+from yardstick import ROOM, SYNC, answered, decoded, hashed, plan, unit, waited, write
 
 # How many turns there are for each round that is asked for.
 TURNS, SLOTS = 10, 1024
@@ -21,6 +21,8 @@ SIZES = (0, 128, 3840, 7936)
 TOLD, APART = 128, 8192
 # Of what is traced, this many groups go once round the ring; and an answer of the yardstick is as long as this one.
 ROUND, ANSWER = SLOTS // CLIENTS, b"appended 1025\n"
+# What stands before the digits of a line for the yardstick.
+APPEND, STAGE = b"append 1 1025 ", b"stage 1 1025 "
 
 
 def layout_of(size: int) -> Layout:
@@ -84,29 +86,74 @@ def traced(bench: Bench, ground: Ground, case: Case, group: bool) -> list:
     return [[call for call in lines[one] if call.name in ("pwrite64", "fdatasync")] for one in at]
 
 
-def steps_of(calls: list) -> list:
-    """The same calls for the yardstick."""
-    return [SYNC if call.name == "fdatasync" else write(*reversed([int(word) for word in call.args[-2:]])) for call in calls]
+def steps_of(case: Case, calls: list) -> list:
+    """The same calls for the yardstick: prepares are written from their rooms, in turn, and a sector of headers from the one after these."""
+    rooms, steps = iter(rooms_of(case)), []
+    for call in calls:
+        if call.name == "fdatasync":
+            steps.append(SYNC)
+        else:
+            length, at = map(int, call.args[-2:])
+            place = next(rooms) if at >= case.layout.first() else ROOM + CLIENTS * case.layout.message_size
+            steps.append(write(at, length, place))
+    return steps
+
+
+def rooms_of(case: Case) -> list:
+    """Where the units of a group stand in the yardstick."""
+    return [ROOM + place * case.layout.message_size for place in range(CLIENTS)]
+
+
+def put_in(front: bytes, size: int, room: int) -> tuple:
+    """The digits of a line, decoded as the body of the unit in this room."""
+    return decoded(len(front), 2 * size, room + 256)
+
+
+def staged(case: Case, count: int) -> list:
+    """This many lines that each put a body into a room, whose hash is taken; each with its answer."""
+    length = len(STAGE) + len(digits(bytes(case.size))) + 1
+    of_rooms = [(put_in(STAGE, case.size, room), hashed(room + 256, case.size)) for room in rooms_of(case)[:count]]
+    return [step for both in of_rooms for step in (waited(length), *both, answered(len(ANSWER)))]
+
+
+def line_of(bench: Bench, case: Case, front: bytes) -> bytes:
+    """A line for the yardstick, with digits of its own: those of equal bytes would be decoded faster."""
+    return b"%s%s\n" % (front, digits(bench.random.randbytes(case.size)))
+
+
+class Alone(NamedTuple):
+    """A turn of the yardstick: how many bodies are put into rooms before it, what it waits for, and what it then does, call by call of the ring."""
+
+    bodies: int
+    line: Callable
+    turns: list
+
+
+def turns_alone(bench: Bench, ground: Ground, case: Case) -> dict:
+    """The turns of the yardstick by name: the calls of an append and of a flush with their hashes and without, and those of an append after
+    the line that feeds it, whose digits are decoded."""
+    append, flush = traced(bench, ground, case, False), traced(bench, ground, case, True)
+    expect("the calls of a flush", {CLIENTS + 3}, {len(calls) for calls in flush})
+    append, flush = ([steps_of(case, calls) for calls in of] for of in (append, flush))
+    first, headers = unit(case.size, ROOM), [unit(0, room)[0] for room in rooms_of(case)]
+    fed = put_in(APPEND, case.size, ROOM)
+    return {
+        "append": Alone(1, lambda: b"\n", [[*first, *steps] for steps in append]),
+        "fed": Alone(0, lambda: line_of(bench, case, APPEND), [[fed, *first, *steps] for steps in append]),
+        "bare append": Alone(1, lambda: b"\n", append),
+        # The bodies were hashed as they were staged.
+        "flush": Alone(CLIENTS, lambda: b"flush\n", [[*headers, *steps] for steps in flush]),
+        "bare flush": Alone(CLIENTS, lambda: b"flush\n", flush),
+    }
 
 
 def plans(bench: Bench, ground: Ground, case: Case) -> dict:
-    """The yardstick's plans, and what each of them waits for: the calls of an append and of a flush with their hashes and without, and
-    those of an append after the line that feeds it, whose digits are decoded."""
-    append, flush = traced(bench, ground, case, False), traced(bench, ground, case, True)
-    expect("the calls of a flush", {CLIENTS + 3}, {len(calls) for calls in flush})
-    line, alone = b"append 1 1025 ", [[*unit(case.size), *steps_of(calls)] for calls in append]
-    what = {
-        "append": alone, "fed": [[decoded(len(line), 2 * case.size), *steps] for steps in alone],
-        "bare append": [steps_of(calls) for calls in append],
-        # The bodies were hashed as they were staged.
-        "flush": [[*CLIENTS * unit(0), *steps_of(calls)] for calls in flush], "bare flush": [steps_of(calls) for calls in flush],
-    }
-    made = {**dict.fromkeys(("append", "bare append"), lambda: b"\n"), **dict.fromkeys(("flush", "bare flush"), lambda: b"flush\n")}
-    # Digits of equal bytes would be decoded faster: which comes next is then no surprise to the processor.
-    made["fed"] = lambda: b"%s%s\n" % (line, digits(bench.random.randbytes(case.size)))
-    for name, turns in what.items():
-        wait, answer = waited(len(made[name]())), answered(len(ANSWER))
-        plan(ground, "plan-" + name, [step for turn in range(TURNS * bench.rounds) for step in (wait, *turns[turn % len(turns)], answer)])
+    """The turns of the yardstick, with a plan of each."""
+    made = turns_alone(bench, ground, case)
+    for name, alone in made.items():
+        before, wait, answer = staged(case, alone.bodies), waited(len(alone.line())), answered(len(ANSWER))
+        plan(ground, "plan-" + name,
+             [step for turn in range(TURNS * bench.rounds) for step in (*before, wait, *alone.turns[turn % len(alone.turns)], answer)])
     return made
 
 
@@ -128,11 +175,17 @@ def turns_of(bench: Bench, ground: Ground, case: Case, stack: ExitStack) -> tupl
         group.replied(CLIENTS)
         return flush * 1e6, (stages + flush) * 1e6
 
-    def alone(name: str, line):
+    def by_itself(name: str, alone: Alone):
         session = stack.enter_context(Planned(bench.yardstick, ground, copy(ground, case.path, "alone-" + name), "plan-" + name))
-        return session, lambda: (session.passed(line(), len(ANSWER)) * 1e6,)
 
-    planned = {name: alone(name, line) for name, line in plans(bench, ground, case).items()}
+        def passed() -> tuple:
+            before = b"".join(line_of(bench, case, STAGE) for _ in range(alone.bodies))
+            if before:
+                session.passed(before, alone.bodies * len(ANSWER))
+            return (session.passed(alone.line(), len(ANSWER)) * 1e6,)
+        return session, passed
+
+    planned = {name: by_itself(name, alone) for name, alone in plans(bench, ground, case).items()}
     turns = {"one": lambda: appended(1), "eight": lambda: appended(CLIENTS), "group": flushed, **{name: turn for name, (_, turn) in planned.items()}}
     return turns, [one.session, group.session, *(session for session, _ in planned.values())]
 

@@ -13,9 +13,9 @@ from typing import NamedTuple
 
 from common import Ground, Spent, put, run
 
-# Bytes of its room, which take the longest line of a script, and steps that it reads at once.
+# Bytes of the room of lines, which takes the longest line of a script, and of that of bodies; and steps that it reads at once.
 ROOM, STEPS = 2**21 + 4096, 256
-STEP = struct.Struct("<c7xQQ")
+STEP = struct.Struct("<c7xQQQ")
 SOURCE = r'''
 // Calls, hashes and hexadecimal digits that a plan on standard input lists, and nothing else: `yardstick FILE SCRIPT`. The calls are those
 // on the file, reads of the script, and writes to standard output.
@@ -28,19 +28,20 @@ use std::fs::{File, OpenFile, OpenOptions};
 use std::io::{self, ErrorKind, Read, Stdout, Write};
 use std::os::unix::fs::FileExt;
 
-/// The most bytes of one call, of one hash, and of the digits of one body.
+/// The most bytes of one call, of one hash, and of the digits of one body: those of each room.
 const ROOM: usize = (1 << 21) + 4096;
 
-/// The bytes of a step: a letter in the first of eight, and two numbers.
-const STEP: usize = 24;
+/// The bytes of a step: a letter in the first of eight, and three numbers.
+const STEP: usize = 32;
 
 /// How many steps are read at once.
 const STEPS: usize = 256;
 
+/// Lines, and what is read of the file; and bodies that were decoded. Places count from the front of the first on, and go on in the second.
 #[derive(Drop)]
 struct Rooms {
     bytes: Vec<u8>,
-    body: Vec<u8>,
+    bodies: Vec<u8>,
 }
 
 #[derive(Drop)]
@@ -73,15 +74,25 @@ fn part(bytes: &[u8], from: u64, length: u64) -> io::Result<&[u8]> {
     Ok(part)
 }
 
+fn held(rooms: &Rooms, from: u64, length: u64) -> io::Result<&[u8]> {
+    match from.checked_sub(ROOM as u64) {
+        Some(at) => part(&rooms.bodies, at, length),
+        None => part(&rooms.bytes, from, length),
+    }
+}
+
 // A function of its own, as in the program: as a part of `main` it would take a fifth more instructions.
 #[inline(never)]
-fn decode(rooms: &mut Rooms, from: u64, length: u64) -> io::Result<u8> {
+fn decode(rooms: &mut Rooms, from: u64, length: u64, to: u64) -> io::Result<u8> {
     let digits = part(&rooms.bytes, from, length)?;
     let size = digits.len() / 2;
-    if size > rooms.body.len() {
+    let Some(at) = (to as usize).checked_sub(ROOM) else {
+        return Err(past());
+    };
+    if at > rooms.bodies.len() || size > rooms.bodies.len() - at {
         return Err(past());
     }
-    match decode_to_slice(digits, &mut rooms.body[..size]) {
+    match decode_to_slice(digits, &mut rooms.bodies[at..at + size]) {
         Ok(()) => Ok(0),
         Err(_) => Err(past()),
     }
@@ -142,10 +153,11 @@ fn answer(out: &mut Stdout, rooms: &Rooms, length: u64) -> io::Result<u8> {
 fn act(files: &mut Files, out: &mut Stdout, rooms: &mut Rooms, step: &[u8]) -> io::Result<u8> {
     let first = number(step, 8);
     let length = number(step, 16);
+    let place = number(step, 24);
     match step.first() {
         Some(b'r') => read_room(&files.file, rooms, first, length),
         Some(b'w') => {
-            files.file.write_all_at(part(&rooms.bytes, 0, length)?, first)?;
+            files.file.write_all_at(held(rooms, place, length)?, first)?;
             Ok(0)
         }
         Some(b's') => {
@@ -155,8 +167,8 @@ fn act(files: &mut Files, out: &mut Stdout, rooms: &mut Rooms, step: &[u8]) -> i
         Some(b'i') => take(&mut files.script, rooms, length),
         Some(b't') => take_whole(&mut files.script, rooms, length),
         Some(b'o') => answer(out, rooms, length),
-        Some(b'h') => Ok(Sha256::digest(part(&rooms.bytes, first, length)?)[0]),
-        Some(b'd') => decode(rooms, first, length),
+        Some(b'h') => Ok(Sha256::digest(held(rooms, place, length)?)[0]),
+        Some(b'd') => decode(rooms, first, length, place),
         _ => Err(past()),
     }
 }
@@ -180,7 +192,7 @@ fn main(rt: HostRuntime) -> io::Result<()> {
     let mut out = rt.stdout();
     let mut rooms = Rooms {
         bytes: vec![in rt.alloc(); 0u8; ROOM]?,
-        body: vec![in rt.alloc(); 0u8; ROOM]?,
+        bodies: vec![in rt.alloc(); 0u8; ROOM]?,
     };
     let mut plan = vec![in rt.alloc(); 0u8; STEP * STEPS]?;
     let mut sum = 0u8;
@@ -200,45 +212,46 @@ fn main(rt: HostRuntime) -> io::Result<()> {
 
 
 def read(at: int, length: int) -> tuple:
-    """A read of the file into the front of the room, in one call unless the file ends within it."""
-    return b"r", at, length
+    """A read of the file into the front of the first room, in one call unless the file ends within it."""
+    return b"r", at, length, 0
 
 
-def write(at: int, length: int) -> tuple:
-    return b"w", at, length
+def write(at: int, length: int, place: int = 0) -> tuple:
+    """A write of what stands at this place of the rooms."""
+    return b"w", at, length, place
 
 
-SYNC = (b"s", 0, 0)
+SYNC = (b"s", 0, 0, 0)
 
 
 def taken(length: int) -> tuple:
-    """A read of the script that asks for this many bytes."""
-    return b"i", 0, length
+    """A read of the script that asks for this many bytes, into the front of the first room."""
+    return b"i", 0, length, 0
 
 
 def waited(length: int) -> tuple:
     """Reads of the script until this many bytes of it are there, in as many calls as it takes."""
-    return b"t", 0, length
+    return b"t", 0, length, 0
 
 
 def answered(length: int) -> tuple:
     """A write to standard output."""
-    return b"o", 0, length
+    return b"o", 0, length, 0
 
 
-def hashed(start: int, length: int) -> tuple:
-    """The SHA-256 of a part of the room."""
-    return b"h", start, length
+def hashed(place: int, length: int) -> tuple:
+    """The SHA-256 of a part of the rooms."""
+    return b"h", 0, length, place
 
 
-def decoded(start: int, length: int) -> tuple:
-    """The bytes of this many digits in the room."""
-    return b"d", start, length
+def decoded(start: int, length: int, place: int = ROOM) -> tuple:
+    """The bytes of this many digits in the first room, put at a place of the second."""
+    return b"d", start, length, place
 
 
-def unit(size: int) -> list:
-    """Both hashes of a unit with a body of this size at the front of the room: of its header, and of the body."""
-    return [hashed(16, 240), hashed(256, size)]
+def unit(size: int, place: int = 0) -> list:
+    """Both hashes of a unit with a body of this size at this place of the rooms: of its header, and of the body."""
+    return [hashed(place + 16, 240), hashed(place + 256, size)]
 
 
 class Yardstick(NamedTuple):
@@ -253,7 +266,7 @@ class Yardstick(NamedTuple):
 
 def plan(ground: Ground, name: str, steps: list) -> str:
     """Writes a plan: the steps, and the one that ends it, up to a whole number of those that are read at once."""
-    data = b"".join(STEP.pack(*step) for step in [*steps, (b"e", 0, 0)])
+    data = b"".join(STEP.pack(*step) for step in [*steps, (b"e", 0, 0, 0)])
     return put(ground, name, data + bytes(-len(data) % (STEP.size * STEPS)))
 
 
