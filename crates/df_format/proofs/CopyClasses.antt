@@ -1,8 +1,8 @@
 -- A copy of the superblock isn't blank, since the checksum of zeros isn't zero; so one that is valid is stale.
-use Rattle.std.{proofs.{Common.{inl, inr, ◌≡◌, ◌≢◌, ℕ, ◌==◌, Bool, true, false, List, take, drop, replicate, Option, Some, None, cond, refl, sym, ◌∙◌, ap, subst, arith}, lemmas.Bool.{cond-true, cond-false, cases_Bool, both_ways, false_from_ne_true, eqb-true, eq-eqb, ne_eqb}, lemmas.List.{take-replicate, drop-replicate}, lemmas.Slice.Eq.{bytes_eq-Decides}}, specs.Prelude.{slice_index, Err}}
+use Rattle.std.{proofs.{Common.{inl, inr, ◌≡◌, ◌≢◌, ℕ, ◌==◌, Bool, true, false, List, take, drop, replicate, Option, Some, None, cond, refl, sym, ◌∙◌, ap, subst, arith}, lemmas.Bool.{cond-true, cond-false, cases_Bool, both_ways, false_from_ne_true, eqb-true, eq-eqb, ne_eqb}, lemmas.List.{take-replicate, drop-replicate}, lemmas.Slice.Eq.{bytes_eq-Decides}}, specs.Prelude.{slice_index, Ok, Err}}
 use Rattle.df_base.{specs.{Fields.{check_of}, Image.{blank}}, proofs.Laws.{no_some}}
 use Rattle.df_layout.specs.{declared.damage.Class.{Class}, declared.damage.Class.TheVariants.{Blank, Elsewhere, Stale}, declared.places.Zone.TheVariants.{Superblock}}
-use Rattle.df_format.{specs.{Own.{place_in}, declared.superblock.SuperCopy.{SuperCopy}, Copies.{copy_in, if_here, copy_at, content_in_copy, is_blank_copy, class_of_sound, class_of_copy, copy_or_class, own_copy}, CopyLaws.{ValidCopyIsStale, StaleIsCopy, BlankShowsNoCopy}}, proofs.{Digest.{check_of-zeros}, CopySpelled.{read_as}, Wholes.{unless_blank}}}
+use Rattle.df_format.{specs.{Own.{place_in}, declared.superblock.SuperCopy.{SuperCopy}, Copies.{copy_in, has_checksum, if_here, copy_at, content_in_copy, is_blank_copy, class_of_sound, class_of_copy, copy_or_class, own_copy}, CopyLaws.{ValidCopyIsStale, StaleIsCopy, BlankShowsNoCopy}}, proofs.{Digest.{check_of-zeros}, CopySpelled.{read_as}, Wholes.{unless_blank}}}
 
 zeros_have_a_sum : (bytes : List ℕ) → bytes ≡ replicate 4096 0 → take 16 bytes ≡ check_of (drop 32 bytes) → ⊥
 zeros_have_a_sum bytes zeros sum =
@@ -16,7 +16,7 @@ unfolding is_blank_copy
 copy_is_not_blank bytes copy is =
     false_from_ne_true _ (λ zeros. zeros_have_a_sum bytes ((bytes_eq-Decides _ _).0 zeros) (read_as bytes copy is).sum)
 
-abbrev number_of : Option SuperCopy → ℕ
+abbrev pub number_of : Option SuperCopy → ℕ
 number_of None = 0
 number_of (Some copy) = copy.number
 
@@ -28,6 +28,15 @@ is_here number (Some found) copy is = elim (cases_Bool (found.number == number))
       (same, subst (λ (o : Option SuperCopy). number_of o ≡ number) same (eqb-true found.number number here))
   | inr there ↦ absurd (let none = sym (cond-false (found.number == number) (Some found) None there) ∙ is in cc)
 ]
+
+-- and its checksum is right
+pub own_has_checksum : (number : ℕ) (bytes : List ℕ) (copy : SuperCopy) → own_copy number bytes ≡ Ok copy → has_checksum bytes ≡ true
+own_has_checksum number bytes copy is =
+    let here = is_here number (copy_in bytes) copy (valid_of _ _ copy is) in (bytes_eq-Decides _ _).1 (read_as bytes copy here.0).sum
+  where
+    valid_of : (o : Option SuperCopy) (class : Class) (copy : SuperCopy) → copy_or_class o class ≡ Ok copy → o ≡ Some copy
+    valid_of None class copy is = absurd (cc)
+    valid_of (Some found) class copy is = cc
 
 -- the class of a sector that is a copy
 class_of_found : (number : ℕ) (bytes : List ℕ) (copy : SuperCopy)

@@ -7,4 +7,4 @@ pub use Rattle.df_format.proofs.Units.{blank_none, count_is, header_shown, heade
 pub use Rattle.df_format.proofs.Given.{Gives, GivesBlock, GivesPrepare, GivesReply, GivesTrailer, given_obeys, made_again, no_check, of_first, of_second, unbooted, zeros_are}
 pub use Rattle.df_format.proofs.CopySpelled.{named_zeros, one_copy_spelling, read_as, was_written}
 pub use Rattle.df_format.proofs.{Checks.{are_checks, length-checks_at, no_names}, CopyShown.{one_sector, same_copy, written_copy}}
-pub use Rattle.df_format.proofs.CopyClasses.{blank_copy_none, copy_is_not_blank, is_here, stale_copy, valid_is_stale}
+pub use Rattle.df_format.proofs.CopyClasses.{blank_copy_none, copy_is_not_blank, is_here, own_has_checksum, stale_copy, valid_is_stale}

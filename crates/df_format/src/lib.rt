@@ -24,7 +24,9 @@ pub use header::{HEADER_VERSION, Header, NO_CHECKSUM, NO_CHECKSUMS};
 pub use kind::Kind;
 pub use make::{Made, make_unit, seal_summed};
 pub use reference::Reference;
-pub use super_codec::{decode_copy, decode_own_copy, encode_copy, renumber_copy};
+pub use super_codec::{
+    decode_copy, decode_own_copy, decode_own_copy_beside, encode_copy, renumber_copy,
+};
 pub use super_rules::{Super, faults_are_broken_rules, test_fields};
 pub use superblock::{SuperCopy, SuperFault, SuperFields};
 pub use unit_laws::{

@@ -1,5 +1,5 @@
 // The sector of a copy of the superblock: how it is written, and how it is tested and read.
-ghost use Rattle.std.specs.Prelude.{◌≡◌, ℕ, ◌<◌, ◌≤◌, ◌+◌, ◌++◌, ◌==◌, not, length, take, drop, replicate, position, IfSome, IsTrue};
+ghost use Rattle.std.specs.Prelude.{◌≡◌, ℕ, ◌<◌, ◌≤◌, ◌+◌, ◌++◌, ◌==◌, not, length, take, drop, replicate, position, IfSome, IsTrue, ◌↔◌};
 ghost use Rattle.df_base.specs.{declared.TheConstants.{SECTOR}, Fields.{field_at, spelled}};
 ghost use Rattle.df_format.specs.{declared.superblock.SuperFields.{SuperFields as AnyFields}, Super.{checks_bytes, fields_bytes, named_bytes, copy_bytes}, SuperRules.{IsUsable}, Own.{place_in}};
 ghost use Rattle.df_format.specs.Copies.{nonzero_between, first_nonzero_of, checks_at, super_fields_of, has_checksum, has_zeros, is_copy, copy_in, is_blank_copy, class_of_no_copy, own_copy};
@@ -197,26 +197,46 @@ fn has_zeros(bytes: &[u8]) -> bool
     bytes[ZEROS..COVERED] == [0; 12]
 }
 
-// Whether the bytes are a copy's, with the number that stands in them.
-#[tactic(auto, unfolding(crate::specs::Copies::is_copy))]
-fn is_copy(number: u32, bytes: &[u8]) -> bool
+// Whether two sectors agree on the checksum and on all that it covers: only what stands between may differ, the number and its zeros.
+fn agree(bytes: &[u8], other: &[u8]) -> bool
     requires size { length bytes.now ≡ SECTOR }
+    requires other { length other.now ≡ SECTOR }
+    ensures { IsTrue result ↔ (take 16 bytes.now ≡ take 16 other.now) × (drop 32 bytes.now ≡ drop 32 other.now) }
+{
+    bytes[..NUMBER] == other[..NUMBER] && bytes[COVERED..] == other[COVERED..]
+}
+
+// Whether the checksum is right, beside a sector whose own one is: that of a sector which agrees with it needs no hash.
+fn has_checksum_beside(bytes: &[u8], sound: &[u8]) -> bool
+    requires size { length bytes.now ≡ SECTOR }
+    requires other { length sound.now ≡ SECTOR }
+    requires sound { IsTrue (has_checksum sound.now) }
+    ensures { result ≡ has_checksum bytes.now }
+{
+    agree(bytes, sound) || has_checksum(bytes)
+}
+
+// Whether the bytes are a copy's, with the number that stands in them, where it is known whether their checksum is right.
+#[tactic(auto, unfolding(crate::specs::Copies::is_copy))]
+fn is_copy(has_sum: bool, number: u32, bytes: &[u8]) -> bool
+    requires size { length bytes.now ≡ SECTOR }
+    requires sum { has_sum ≡ has_checksum bytes.now }
     requires number { number ≡ field_at 4 16 bytes.now }
     ensures copy { result ≡ is_copy bytes.now }
     ensures number { IsTrue result → number < 4 }
 {
-    has_checksum(bytes) && number < COPIES && has_zeros(bytes)
+    has_sum && number < COPIES && has_zeros(bytes)
 }
 
-/// The copy of the superblock that the 4,096 bytes of a sector are, wherever it belongs; None where the checksum is
-/// wrong, the number isn't that of a copy, or a byte after the number isn't zero. What the fields say isn't tested.
+// The copy that the bytes are, where it is known whether their checksum is right.
 #[tactic(auto, unfolding(crate::specs::Copies::copy_in))]
-pub fn decode_copy(bytes: &[u8]) -> Option<SuperCopy>
-    requires { length bytes.now ≡ SECTOR }
+fn copy_in(has_sum: bool, bytes: &[u8]) -> Option<SuperCopy>
+    requires size { length bytes.now ≡ SECTOR }
+    requires sum { has_sum ≡ has_checksum bytes.now }
     ensures { result ≡ copy_in bytes.now }
 {
     let number = u32_at(bytes, NUMBER);
-    if is_copy(number, bytes) {
+    if is_copy(has_sum, number, bytes) {
         Some(SuperCopy {
             number: number as u8,
             checksum: check_at(bytes, 0),
@@ -225,6 +245,15 @@ pub fn decode_copy(bytes: &[u8]) -> Option<SuperCopy>
     } else {
         None
     }
+}
+
+/// The copy of the superblock that the 4,096 bytes of a sector are, wherever it belongs; None where the checksum is
+/// wrong, the number isn't that of a copy, or a byte after the number isn't zero. What the fields say isn't tested.
+pub fn decode_copy(bytes: &[u8]) -> Option<SuperCopy>
+    requires { length bytes.now ≡ SECTOR }
+    ensures { result ≡ copy_in bytes.now }
+{
+    copy_in(has_checksum(bytes), bytes)
 }
 
 #[tactic(auto, unfolding(crate::specs::Copies::is_blank_copy))]
@@ -256,15 +285,36 @@ fn elsewhere(copy: &SuperCopy) -> Class
     })
 }
 
-/// The copy with this number, 0 to 3, where the 4,096 bytes of its sector are that copy; else the class of what they are.
+// The copy that the bytes are, where it has this number; else their class.
 #[tactic(auto, unfolding(crate::specs::Copies::class_of_copy))]
-pub fn decode_own_copy(number: u8, bytes: &[u8]) -> Result<SuperCopy, Class>
-    requires { length bytes.now ≡ SECTOR }
+fn own_copy(number: u8, bytes: &[u8], copy: Option<SuperCopy>) -> Result<SuperCopy, Class>
+    requires size { length bytes.now ≡ SECTOR }
+    requires copy { copy ≡ copy_in bytes.now }
     ensures { result ≡ own_copy number bytes.now }
 {
-    match decode_copy(bytes) {
+    match copy {
         Some(copy) if copy.number == number => Ok(copy),
         Some(copy) => Err(elsewhere(&copy)),
         None => Err(class_of_none(bytes)),
     }
+}
+
+/// The copy with this number, 0 to 3, where the 4,096 bytes of its sector are that copy; else the class of what they are.
+pub fn decode_own_copy(number: u8, bytes: &[u8]) -> Result<SuperCopy, Class>
+    requires { length bytes.now ≡ SECTOR }
+    ensures { result ≡ own_copy number bytes.now }
+{
+    own_copy(number, bytes, decode_copy(bytes))
+}
+
+/// The same beside a sector whose checksum is right, as that of a sound copy. The checksum doesn't cover the number, and copies of
+/// one content have the same, so these bytes are hashed only where their checksum or what it covers isn't that sector's.
+pub fn decode_own_copy_beside(number: u8, bytes: &[u8], sound: &[u8]) -> Result<SuperCopy, Class>
+    requires size { length bytes.now ≡ SECTOR }
+    requires other { length sound.now ≡ SECTOR }
+    requires sound { IsTrue (has_checksum sound.now) }
+    ensures { result ≡ own_copy number bytes.now }
+{
+    let has_sum = has_checksum_beside(bytes, sound);
+    own_copy(number, bytes, copy_in(has_sum, bytes))
 }
