@@ -1,11 +1,11 @@
 // Whether a room holds the unit that is wanted: tested on the bytes of its place.
 ghost use Rattle.std.specs.Prelude.{◌≡◌, ◌≢◌, ◌<◌, ◌↔◌, [], length, IsTrue, IfOk, IfErr};
 ghost use Rattle.df_base.specs.declared.TheConstants.{HEADER, SECTOR};
-ghost use Rattle.df_buffers.specs.{Below.{Message, place_size, own_copy, IsWanted}, Rooms.{header_bytes}, Found.{wanted_words, FindsUnit, FindsKind, IsValidUnit, class_for, shown_in}};
+ghost use Rattle.df_buffers.specs.{Below.{Message, place_size, has_checksum, own_copy, IsWanted}, Rooms.{header_bytes}, Found.{wanted_words, FindsUnit, FindsKind, IsValidUnit, class_for, shown_in}};
 
 use crate::{HeaderSector, Identity, Raw, Sound, SuperSector, UnitKind, Wanted};
 use df_base::HEADER;
-use df_format::{Header, Kind, SuperCopy, decode_own_copy, decode_unit};
+use df_format::{Header, Kind, SuperCopy, decode_own_copy, decode_own_copy_beside, decode_unit};
 use df_layout::{Class, Place, Zone};
 
 // Whether a valid unit with this header is the one wanted; the body doesn't matter.
@@ -114,5 +114,16 @@ impl Raw<SuperSector> {
         ensures { result ≡ own_copy place.index self.now.bytes }
     {
         decode_own_copy(place.index as u8, &self.bytes)
+    }
+
+    /// The same beside a room whose bytes have the right checksum, as those of a sound copy have: bytes that differ from that room's
+    /// in their number alone aren't hashed, since the checksum doesn't cover it.
+    pub fn copy_beside(&self, place: Place, sound: &Raw<SuperSector>) -> Result<SuperCopy, Class>
+        requires zone { place.zone ≡ Zone.Superblock }
+        requires number { place.index < 4 }
+        requires sound { IsTrue (has_checksum sound.now.bytes) }
+        ensures { result ≡ own_copy place.index self.now.bytes }
+    {
+        decode_own_copy_beside(place.index as u8, &self.bytes, &sound.bytes)
     }
 }

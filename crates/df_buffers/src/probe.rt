@@ -71,4 +71,12 @@ impl ProbeRoom {
         let _ = &sector.bytes;
         sector
     }
+
+    /// The rooms of the four copies in order of number, to be read into one beside another.
+    pub fn sectors_mut(&mut self) -> &mut [Raw<SuperSector>]
+        ensures value { result.now ≡ self.old }
+        ensures size { length result.now ≡ 4 }
+    {
+        self.copies.as_mut_slice()
+    }
 }
