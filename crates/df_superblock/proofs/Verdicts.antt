@@ -1,7 +1,8 @@
 -- What slots that were read say of the copies, and what an update answers of them.
 use Rattle.std.proofs.{Common.{◌≡◌, inl, inr, ◌<◌, ◌≤◌, ◌+◌, ◌/◌, ◌==◌, if◌then◌else◌, ◌↔◌, ℕ, zero, suc, Bool, true, false, IsTrue, List, [], ◌∷◌, ◌++◌, length, take, drop, get_or, Option, Some, None, refl, sym, ◌∙◌, ap, subst, arith, Result, Ok, Err, OnOk}, lemmas.Bool.{cases_lt, eq-eqb}, lemmas.List.{append-nil}, Math.Seq.{take-append_seam}}
-use Rattle.{df_base.specs.Image.{Image, bytes_at}, df_disk.specs.Told.{Told, Shows}, df_layout.specs.declared.damage.Class.{Class}}
-use Rattle.df_format.specs.{declared.superblock.SuperCopy.{SuperCopy}, declared.superblock.SuperFields.{SuperFields}, Copies.{Content, content_at, content_in_copy, copy_at, copy_in, copy_or_class, class_of_copy, if_here, own_copy}}
+use Rattle.{df_base.specs.Image.{Image, bytes_at}, df_disk.specs.Told.{Told, Shows}, df_layout.specs.{declared.damage.Class.{Class}, declared.layout.Layout.{Layout}, declared.places.Zone.TheVariants.{Superblock}, Spans.{place_sectors}}, df_buffers.specs.Rooms.{FillsRoom}}
+use Rattle.df_format.specs.{declared.superblock.SuperCopy.{SuperCopy}, declared.superblock.SuperFields.{SuperFields}, Copies.{Content, content_at, content_in_copy, copy_at, copy_in, copy_or_class, class_of_copy, has_checksum, if_here, own_copy}}
+use Rattle.df_format.proofs.Laws.{own_has_checksum}
 use Rattle.df_quorum.specs.{declared.slot.Slot.{Slot}, declared.slot.Slot.TheVariants.{Sound}, Quorum.{copy_of, nothing}}
 use Rattle.df_superblock.specs.Calls.{slot_of, slot_at, ShowsSector, ShowsCopySlot, ShowsSlots, ShowsCopies, SlotHolds, IsCopyRead, AreEnough, IsFirstMissing}
 
@@ -38,6 +39,11 @@ pub read_shows : {T E : Type 0} → (told : Option Told) (at n : ℕ) (bytes : L
 read_shows told at n bytes (Ok x) same size shown = shows_sector told n bytes size (rw same at shown)
 read_shows told at n bytes (Err e) same size shown = tt
 
+-- a room of a copy has the bytes of one sector, whatever its layout
+pub room_is_sector : (layout : Layout) (bytes : List ℕ) → FillsRoom layout Superblock bytes → length bytes ≡ 4096
+unfolding place_sectors
+room_is_sector layout bytes fills = fills
+
 -- a room that was written over as a whole
 pub whole_room : (new old : List ℕ) → length new ≡ length old → take (length old) (new ++ drop (length new) old) ≡ new
 whole_room new old size = ap (λ (k : ℕ). take k (new ++ drop (length new) old)) (sym size) ∙ take-append_seam new (drop (length new) old)
@@ -46,6 +52,15 @@ pub shows_slot : (told : Option Told) (n : ℕ) (bytes held : List ℕ) (slot : 
     → ShowsSector told n bytes → held ≡ bytes → slot ≡ slot_of (own_copy n held) → ShowsCopySlot told n slot
 shows_slot None n bytes held slot shown same is = tt
 shows_slot (Some t) n bytes held slot shown same is = is ∙ ap (λ (b : List ℕ). slot_of (own_copy n b)) (same ∙ shown)
+
+-- the slot that holds a copy was read as that copy, so the checksum of what was read is right
+pub sound_slot : (n : ℕ) (bytes : List ℕ) (slot : Slot) (copy : SuperCopy)
+    → slot ≡ Sound copy → slot ≡ slot_of (own_copy n bytes) → has_checksum bytes ≡ true
+sound_slot n bytes slot copy sound is = own_has_checksum n bytes copy (read_as_sound (own_copy n bytes) (sym is ∙ sound))
+  where
+    read_as_sound : (r : Result SuperCopy Class) → slot_of r ≡ Sound copy → r ≡ Ok copy
+    read_as_sound (Ok found) same = cc
+    read_as_sound (Err class) same = absurd (cc)
 
 pub shows_four : (told : Option Told) (a b c d : Slot) → ShowsCopySlot told 0 a
     → ShowsCopySlot told 1 b → ShowsCopySlot told 2 c → ShowsCopySlot told 3 d → ShowsSlots told (a ∷ b ∷ c ∷ d ∷ [])

@@ -1,13 +1,13 @@
 // Reads and writes of single copies, and which of the four places is written. A copy is durable before its writer answers.
 ghost use Rattle.std.specs.Prelude.{◌≡◌, ◌<◌, ℕ, [], ◌∷◌, length, IfNone, IfOk, IfSome, OnOk};
 ghost use Rattle.df_base.specs.declared.TheConstants.{SECTOR};
-ghost use Rattle.df_superblock.specs.{Below.{HasCause, Sync, Adds, copy_bytes, own_copy}, Blank.{AreBlank, IsFirstWrittenOf}, Calls.{ShowsSector, ShowsCopySlot, ShowsSlots, ShowsCopies, slot_of}};
+ghost use Rattle.df_superblock.specs.{Below.{HasCause, Sync, Adds, copy_bytes, own_copy, place_in}, Blank.{AreBlank, IsFirstWrittenOf}, Calls.{ShowsSector, ShowsCopySlot, ShowsSlots, ShowsCopies, slot_of}};
 ghost use Rattle.df_superblock.specs.{Events.{copy_written}, Steps.{AreStepsOfCopies, copy_write_steps}};
 
 use df_base::Failed;
 use df_buffers::{ProbeRoom, Raw, SuperSector};
 use df_disk::Disk;
-use df_format::{Super, encode_copy, renumber_copy};
+use df_format::{Super, SuperCopy, encode_copy, renumber_copy};
 use df_layout::{Class, Place, Zone};
 use df_quorum::Slot;
 
@@ -21,31 +21,78 @@ fn read_sector<D: Disk>(disk: &mut D, number: u8, into: &mut [u8]) -> Result<(),
     disk.read(u64::from(number), into)
 }
 
-// The copy in a room that was read from the place of this number, or the class of what is there.
-fn slot_in(room: &Raw<SuperSector>, number: u8) -> Slot
-    requires { number < 4 }
-    ensures { result ≡ slot_of (own_copy number room.now.bytes) }
+// The place of the copy with this number.
+fn place_of(number: u8) -> Place
+    ensures { result ≡ place_in Zone.Superblock number }
 {
-    let place = Place {
+    Place {
         zone: Zone::Superblock,
         index: u64::from(number),
-    };
-    match room.copy(place) {
+    }
+}
+
+fn slot_for(read: Result<SuperCopy, Class>) -> Slot
+    ensures { result ≡ slot_of read }
+{
+    match read {
         Ok(copy) => Slot::Sound(copy),
         Err(class) => Slot::Bad(class),
     }
 }
 
-// Reads the place of one copy.
-fn read_copy<D: Disk>(disk: &mut D, room: &mut Raw<SuperSector>, number: u8) -> Result<Slot, Failed>
+// The copy in a room that was read from the place of this number, or the class of what is there.
+fn slot_in(room: &Raw<SuperSector>, number: u8) -> Slot
+    requires { number < 4 }
+    ensures { result ≡ slot_of (own_copy number room.now.bytes) }
+{
+    slot_for(room.copy(place_of(number)))
+}
+
+// The same beside copy 0 and the room that it was read into. The four are nearly always equal but for their numbers, and of equal
+// copies the first alone is hashed.
+fn slot_beside(
+    room: &Raw<SuperSector>,
+    number: u8,
+    first: &Slot,
+    first_room: &Raw<SuperSector>,
+) -> Slot
     requires number { number < 4 }
-    requires size { length room.old.bytes ≡ SECTOR }
+    requires first { first.now ≡ slot_of (own_copy 0 first_room.now.bytes) }
+    ensures { result ≡ slot_of (own_copy number room.now.bytes) }
+{
+    match first {
+        Slot::Sound(_) => slot_for(room.copy_beside(place_of(number), first_room)),
+        Slot::Bad(_) => slot_in(room, number),
+    }
+}
+
+// Reads the place of copy 0.
+fn read_first<D: Disk>(disk: &mut D, room: &mut Raw<SuperSector>) -> Result<Slot, Failed>
+    ensures shown { IfOk result (ShowsCopySlot (D.told disk.old) 0) }
+    ensures held { IfOk result (λ slot. slot ≡ slot_of (own_copy 0 room.new.bytes)) }
+    ensures same { D.told disk.new ≡ D.told disk.old }
+    ensures cause { HasCause (D.faults disk.old) (D.faults disk.new) result }
+{
+    read_sector(disk, 0, room.bytes_mut())?;
+    Ok(slot_in(room, 0))
+}
+
+// Reads the place of one copy, where copy 0 was read.
+fn read_beside<D: Disk>(
+    disk: &mut D,
+    room: &mut Raw<SuperSector>,
+    number: u8,
+    first: &Slot,
+    first_room: &Raw<SuperSector>,
+) -> Result<Slot, Failed>
+    requires number { number < 4 }
+    requires first { first.now ≡ slot_of (own_copy 0 first_room.now.bytes) }
     ensures shown { IfOk result (ShowsCopySlot (D.told disk.old) number) }
     ensures same { D.told disk.new ≡ D.told disk.old }
     ensures cause { HasCause (D.faults disk.old) (D.faults disk.new) result }
 {
     read_sector(disk, number, room.bytes_mut())?;
-    Ok(slot_in(room, number))
+    Ok(slot_beside(room, number, first, first_room))
 }
 
 /// Reads the four copies: each slot is the sound copy that belongs at its place, or the class of what is there.
@@ -55,10 +102,11 @@ pub fn read_all<D: Disk>(disk: &mut D, room: &mut ProbeRoom) -> Result<[Slot; 4]
     ensures same { D.told disk.new ≡ D.told disk.old }
     ensures cause { HasCause (D.faults disk.old) (D.faults disk.new) result }
 {
-    let first = read_copy(disk, room.sector_mut(0), 0)?;
-    let second = read_copy(disk, room.sector_mut(1), 1)?;
-    let third = read_copy(disk, room.sector_mut(2), 2)?;
-    let fourth = read_copy(disk, room.sector_mut(3), 3)?;
+    let (zeroth, others) = room.sectors_mut().split_at_mut(1);
+    let first = read_first(disk, &mut zeroth[0])?;
+    let second = read_beside(disk, &mut others[0], 1, &first, &zeroth[0])?;
+    let third = read_beside(disk, &mut others[1], 2, &first, &zeroth[0])?;
+    let fourth = read_beside(disk, &mut others[2], 3, &first, &zeroth[0])?;
     Ok([first, second, third, fourth])
 }
 
