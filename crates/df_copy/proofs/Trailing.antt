@@ -6,8 +6,6 @@ use Rattle.{df_checkpoint.specs.{declared.capture.Capture.{Capture}, Writing.{un
 use Rattle.df_grid.specs.{Grid.{GridState, free_addresses, with_blocks}, Table.{last_trailer_block, next_written}, Writes.{made_events, next_unit}}
 use Rattle.df_copy.{specs.{Targets.{begun_grid, grid_behind, grid_with, last_message as last_block, next_piece, pieces_from, reference_pair, sequence_of, trailer_of}, Tests.{needed, references, trailer_blocks}, Trailers.{text_in}, Units.{all_events, moved_from}}, proofs.{Frees.{free_behind, next_free}, Listed.{moved_length}, Piecewise.{count_left, count_written, grid_more, kept_captured, kept_layout, last_written}}}
 
--- ---- none
-
 -- ---- some
 
 -- what the grid makes of what was captured

@@ -7,5 +7,3 @@ use Rattle.df_session.{specs.Below.{State, shape, DataFile}, proofs.Laws.{found_
 pub one_file : (version : ℕ) (file : DataFile) (layout : Layout) (image : Image) (view : View) (s : State)
     → IsFound (shape file) (unit_at file.layout file.cluster image) view → IsOpenedAs version layout image s → s.file ≡ file
 one_file version file layout image view s found is = found_file file s.file layout image view is.view found is.found
-
--- ---- one thing is told

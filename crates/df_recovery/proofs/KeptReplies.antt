@@ -22,8 +22,6 @@ stored_now n s h reply is le = let same : reply_in n s (Some reply) ≡ Some h.c
     ap (λ (r : Result Header Class). reply_in n s (Some r)) is ∙ cond-true (nat_le s.op n) (Some h.checksum) s.reply (le-leb s.op n le) in
     λ i. record s { reply = same i }
 
--- ---- place by place
-
 -- ---- in the theory
 
 entry_of : (o : Option (Result Header Class)) (x : Option AnyUnit) (r : Message) (n : ℕ) (s : Session)

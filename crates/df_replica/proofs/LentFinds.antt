@@ -82,5 +82,3 @@ client_at client (x ∷ ss) s at = go (x.client == client) refl at (λ there. cl
         → (slice_get ss (place_of_client client ss) ≡ Some s → s.client ≡ client) → s.client ≡ client
     go true same there more = let one : s ≡ x = cc in ap (λ (y : Session). y.client) one ∙ eqb-true x.client client same
     go false same there more = more there
-
--- ---- blocks

@@ -49,8 +49,6 @@ row_split e f x y is other same = let rows = same_front (row_of e) (row_of f) x 
 pub one_row : (e f : Entry) → IsEntry e → IsEntry f → row_of e ≡ row_of f → e ≡ f
 one_row e f is other same = (row_split e f [] [] is other (ap (λ (l : List ℕ). l ++ []) same)).0
 
--- ---- zeros
-
 -- ---- a row that is read
 
 module _ (bytes tail value rest : List ℕ) (n : ℕ) (whole : length bytes ≡ 64)

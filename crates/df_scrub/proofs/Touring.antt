@@ -12,8 +12,6 @@ pub record IsTouring (g : GridState) (told : Option Told) (start : List Finding)
   pub listed : size ≤ s.tour.checked
   pub findings : s.findings ≡ newest (start ++ report)
 
--- ---- the ring
-
 -- ---- at the start
 
 -- a step over the grid and the disk that there were at the start
