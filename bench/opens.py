@@ -77,10 +77,10 @@ def zones(case: Case, words: str) -> dict:
     return found
 
 
-def hashes(zone: str, place: bytes) -> list:
-    """The hashes of what a place has."""
+def hashes(zone: str, offset: int, place: bytes) -> list:
+    """The hashes of what a place has; of the copies, which are equal but for their numbers, the first alone is hashed."""
     if zone == "copies of the superblock":
-        return [hashed(32, SECTOR - 32)]
+        return [hashed(32, SECTOR - 32)] if offset == 0 else []
     if zone == "sectors of headers":
         return [hashed(at + 16, 240) for at in range(0, SECTOR, form.HEADER)]
     size = int.from_bytes(place[112:116], "little")
@@ -93,7 +93,7 @@ def steps_of(case: Case, path: str, words: str) -> list:
     with open(path, "rb") as file:
         for zone, places in zones(case, words).items():
             for at, length in places:
-                steps += [read(at, length), *hashes(zone, os.pread(file.fileno(), form.HEADER, at))]
+                steps += [read(at, length), *hashes(zone, at, os.pread(file.fileno(), form.HEADER, at))]
     for copy in range(COPIES):
         # What is written is what the room has: the copy itself.
         steps += [read(SECTOR * copy, SECTOR), write(SECTOR * copy, SECTOR), SYNC]

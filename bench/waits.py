@@ -86,9 +86,9 @@ def traced(bench: Bench, ground: Ground, case: Case, work: Work, listed: list) -
 
 def hashes_of(case: Case, at: int, reads: bool) -> list:
     """The hashes that go with what stands at an offset: blocks that are read have no bodies, those of a trailer are full, and of the copies
-    that an update writes the first alone is hashed, since their checksum is one."""
+    that an update writes or reads back the first alone is hashed, since their checksum is one."""
     if at < SECTOR * COPIES:
-        return [COPY] if reads or at == 0 else []
+        return [COPY] if at == 0 else []
     if at < case.layout.first():
         return []
     return unit(SIZE if at < case.layout.grid() else 0 if reads else case.layout.block_max())
